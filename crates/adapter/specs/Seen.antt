@@ -1,0 +1,20 @@
+-- What contracts see of an adapter, and of an entry that it lends.
+use Rattle.std.specs.Prelude.{◌≡◌, List, [], ◌∷◌, ◌++◌}
+use Rattle.adapter.specs.declared.limits.Limits.{Limits}
+use Rattle.adapter.specs.declared.entry.EntryView.{EntryView}
+use Rattle.adapter.specs.declared.entry.EntryView.TheVariants as views
+use Rattle.adapter.specs.Entry.{Entry, Asked, Passed}
+
+-- its limits and its history
+pub record Seen : Type 0 where
+  pub limits : Limits
+  pub history : List Entry
+
+-- the entry behind a view
+abbrev pub entry_of : EntryView → Entry
+entry_of (views.Asked caller call reply) = Asked caller call.now reply.now
+entry_of (views.Passed caller parcel verdict) = Passed caller parcel.now verdict.now
+
+-- the history grew by just this entry, and nothing else changed
+abbrev pub Enters : Seen → Seen → Entry → Type 0
+Enters old new entry = new ≡ record old { history = old.history ++ entry ∷ [] }

@@ -1,0 +1,23 @@
+//! The entries of a history.
+use crate::call::Call;
+use crate::caller::Caller;
+use crate::parcel::Parcel;
+use crate::reply::Reply;
+use crate::verdict::Verdict;
+
+/// An entry, lent by the adapter that keeps it.
+#[derive(Clone, Copy)]
+pub enum EntryView<'a> {
+    /// A call and its reply.
+    Asked {
+        caller: Caller,
+        call: &'a Call,
+        reply: &'a Reply,
+    },
+    /// A frame and its verdict.
+    Passed {
+        caller: Caller,
+        parcel: &'a Parcel,
+        verdict: &'a Verdict,
+    },
+}
