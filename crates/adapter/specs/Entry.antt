@@ -1,5 +1,4 @@
 -- An entry of a history: a call that was asked, with its reply, or a frame that passed, with its verdict.
-use Rattle.std.specs.Prelude.{List}
 use Rattle.adapter.specs.declared.caller.Caller.{Caller}
 use Rattle.adapter.specs.declared.call.Call.{Call}
 use Rattle.adapter.specs.declared.reply.Reply.{Reply}

@@ -1,5 +1,5 @@
 -- A legal history: each call has the reply, and each frame the verdict, that the entries before it give.
-use Rattle.std.specs.Prelude.{◌≡◌, ℕ, List, [], ◌∷◌, ◌++◌}
+use Rattle.std.specs.Prelude.{◌≡◌, List, [], ◌∷◌, ◌++◌}
 use Rattle.adapter.specs.declared.limits.Limits.{Limits}
 use Rattle.adapter.specs.declared.caller.Caller.{Caller}
 use Rattle.adapter.specs.declared.call.Call.{Call}

@@ -5,3 +5,6 @@ pub mod Verdict
 pub mod Totals
 pub mod Reply
 pub mod History
+pub mod Sound
+pub mod Stored
+pub mod Counted

@@ -21,9 +21,14 @@ abbrev pub is_queue : ℕ → Fate → Bool
 is_queue q (fates.Queue n) = n == q
 is_queue q fates.Drop = false
 
--- frames received and dropped, and those of each Rx queue from 0 to 15
+-- the frames delivered to each Rx queue, from 0 to 15
+unfoldable pub queue_totals : List Entry → List ℕ
+queue_totals history = map (λ q. count_by (passes_by (is_queue q)) history) (range_with_len 0 16)
+
+-- the frames received, dropped, and delivered
 abbrev pub totals_of : List Entry → Totals
 totals_of history = record {
-    received = count_by (passes_by is_any_fate) history;
-    dropped = count_by (passes_by is_drop) history;
-    queues = map (λ q. count_by (passes_by (is_queue q)) history) (range_with_len 0 16) }
+  received = count_by (passes_by is_any_fate) history;
+  dropped = count_by (passes_by is_drop) history;
+  queues = queue_totals history;
+}

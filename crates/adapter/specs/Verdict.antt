@@ -1,10 +1,8 @@
 -- The walk of a frame over the rules in effect (rte_flow guide, pattern matching). Of rules that match, the earlier in
 -- effect wins; a frame that none matches goes to queue 0.
-use Rattle.std.specs.Prelude.{ℕ, Bool, true, false, List, [], ◌∷◌, Option, None, Some}
+use Rattle.std.specs.Prelude.{Bool, true, false, List, [], ◌∷◌, Option, None, Some}
 use Rattle.std.specs.List.{find}
 use Rattle.packet_headers.specs.declared.items.LayerAt.{LayerAt}
-use Rattle.packet_headers.specs.declared.items.ItemKind.{ItemKind}
-use Rattle.packet_headers.specs.declared.items.ItemKind.TheVariants as kinds
 use Rattle.adapter.specs.declared.rule.Rule.{Rule}
 use Rattle.adapter.specs.declared.verdict.Verdict.{Verdict}
 use Rattle.adapter.specs.declared.verdict.Fate.TheVariants as fates

@@ -1,5 +1,8 @@
 //! What becomes of a frame.
+ghost use Rattle.std.specs.Prelude.{◌≡◌};
+
 use arrayvec::ArrayVec;
+use std::alloc::AllocError;
 
 /// Where a frame ends.
 #[derive(Clone, Copy, Debug, PartialEq, Eq)]
@@ -17,4 +20,21 @@ pub struct Verdict {
     pub mark: Option<u32>,
     pub hash: Option<u32>,
     pub path: ArrayVec<u32, 16>,
+}
+
+impl Clone for Verdict {
+    ghost is_clone = { λ v w. w ≡ v };
+
+    fn clone(&self) -> Result<Verdict, AllocError> {
+        let path = self.path.clone()?;
+        let fate = self.fate;
+        let mark = self.mark;
+        let hash = self.hash;
+        Ok(Verdict {
+            fate,
+            mark,
+            hash,
+            path,
+        })
+    }
 }

@@ -64,8 +64,18 @@ pub fn parse(frame: &[u8]) -> Key
     if frame.len() < 14 {
         return Key { outer: None };
     }
-    let dst = 4294967296 * be16(frame, 0) as u64 + 65536 * be16(frame, 2) as u64 + be16(frame, 4) as u64;
-    let src = 4294967296 * be16(frame, 6) as u64 + 65536 * be16(frame, 8) as u64 + be16(frame, 10) as u64;
+    let dst = 4294967296 * be16(frame, 0) as u64
+        + 65536 * be16(frame, 2) as u64
+        + be16(frame, 4) as u64;
+    let src = 4294967296 * be16(frame, 6) as u64
+        + 65536 * be16(frame, 8) as u64
+        + be16(frame, 10) as u64;
     let ether_type = be16(frame, 12);
-    Key { outer: Some(Eth { dst, src, ether_type }) }
+    Key {
+        outer: Some(Eth {
+            dst,
+            src,
+            ether_type,
+        }),
+    }
 }

@@ -5,4 +5,4 @@ mod items;
 mod keys;
 
 pub use items::{ItemKind, Layer, LayerAt};
-pub use keys::{parse, Key};
+pub use keys::{Key, parse};

@@ -1,0 +1,2 @@
+pub mod TotalsGrowth
+pub mod SoundGrowth

@@ -1,0 +1,153 @@
+//! The adapter: the rules in effect, and the history of all that was asked and of all frames that passed.
+ghost use Rattle.std.specs.Prelude.{◌≡◌, ◌<◌, ◌≤◌, ◌^◌, [], ◌∷◌, ◌++◌, length, slice_get, Some, IfOk, OnOk, OnErr};
+ghost use Rattle.adapter.specs.Entry.{Asked, Passed};
+ghost use Rattle.adapter.specs.Seen.{Enters, entry_of};
+
+use crate::answer::{answer, carry_out};
+use crate::call::Call;
+use crate::caller::Caller;
+use crate::count::count;
+use crate::entry::EntryView;
+use crate::history::History;
+use crate::limits::Limits;
+use crate::parcel::Parcel;
+use crate::reply::{Reply, Totals};
+use crate::rule::Rule;
+use crate::verdict::Verdict;
+use crate::walk::walk;
+use packet_headers::Key;
+use std::alloc::{AllocError, Global};
+use std::marker::Model;
+
+/// The most entries of a history.
+const MAX_ENTRIES: usize = 4_294_967_296;
+
+/// The plain one-thread adapter.
+///
+/// Contracts see its limits and its history, which is always legal: each call has the reply, and each frame the
+/// verdict, that the entries before it give.
+#[derive(Drop)]
+pub struct Adapter {
+    limits: Limits,
+    rules: Vec<Rule>,
+    totals: Totals,
+    history: History,
+}
+
+impl Model for Adapter {
+    ghost use Rattle.adapter.specs.Seen.{Seen};
+
+    ghost Value = { Seen };
+
+    ghost use Rattle.adapter.specs.Sound.{view_of, IsSound};
+
+    ghost view = { view_of };
+
+    ghost invariant = { IsSound };
+}
+
+impl Adapter {
+    ghost use Rattle.adapter.specs.State.{state_of};
+    ghost use Rattle.adapter.specs.Totals.{totals_of};
+    ghost use Rattle.adapter.specs.Reply.{reply_to};
+    ghost use Rattle.adapter.specs.History.{IsLegal};
+    ghost use Rattle.adapter.specs.Verdict.{verdict_of};
+    ghost use Rattle.adapter.specs.Sound.{AreLimits};
+
+    /// An adapter without rules, whose history is empty.
+    pub fn new(alloc: Global, limits: Limits) -> Result<Adapter, AllocError>
+        requires { AreLimits limits }
+        ensures { IfOk result (λ adapter. adapter ≡ record { limits = limits; history = [] }) }
+    {
+        Ok(Adapter {
+            limits,
+            rules: Vec::new(alloc),
+            totals: Totals {
+                received: 0,
+                dropped: 0,
+                queues: [0; 16],
+            },
+            history: History::new(alloc),
+        })
+    }
+
+    /// Carries out a call of the shell or of an agent, enters it with its reply, and answers the reply.
+    ///
+    /// Want of memory leaves the adapter as it was.
+    pub fn step(&mut self, caller: Caller, call: &Call) -> Result<Reply, AllocError>
+        requires { caller.0 ≤ 8 }
+        ensures entered { IfOk result (λ reply. Enters self.old self.new (Asked caller call.now reply)) }
+        ensures reply { IfOk result (λ reply. reply ≡ reply_to self.old.limits self.old.history call.now.op) }
+        ensures err { OnErr result (self.new ≡ self.old) }
+    {
+        if self.history.len() >= MAX_ENTRIES {
+            return Err(AllocError);
+        }
+        self.rules.reserve(1)?;
+        let reply = answer(&self.limits, &self.rules, &self.totals, &call.op);
+        self.history.add_call(caller, call, reply)?;
+        carry_out(&self.limits, &mut self.rules, &call.op);
+        Ok(reply)
+    }
+
+    /// Enters a frame that passed by a packet worker, with the verdict of the rules in effect.
+    ///
+    /// Want of memory leaves the adapter as it was.
+    pub fn packet(
+        &mut self,
+        caller: Caller,
+        parcel: &Parcel,
+        verdict: &Verdict,
+    ) -> Result<(), AllocError>
+        requires worker { (9 ≤ caller.0) × (caller.0 ≤ 24) }
+        requires verdict { verdict.now ≡ verdict_of (state_of self.old.limits self.old.history).rules parcel.now.key }
+        ensures entered { OnOk result (Enters self.old self.new (Passed caller parcel.now verdict.now)) }
+        ensures err { OnErr result (self.new ≡ self.old) }
+    {
+        if self.history.len() >= MAX_ENTRIES {
+            return Err(AllocError);
+        }
+        self.history.add_frame(caller, parcel, verdict)?;
+        count(&mut self.totals, verdict.fate);
+        Ok(())
+    }
+
+    /// The verdict on a frame of these layers by the rules in effect.
+    pub fn verdict(&self, key: &Key) -> Verdict
+        ensures { result ≡ verdict_of (state_of self.now.limits self.now.history).rules key.now }
+    {
+        walk(&self.rules, key)
+    }
+
+    /// The number of entries of the history.
+    pub fn entries(&self) -> u64
+        ensures number { result ≡ length self.now.history }
+        ensures short { result ≤ 2 ^ 32 }
+        ensures legal { IsLegal self.now.limits self.now.history }
+    {
+        self.history.len() as u64
+    }
+
+    /// The entry at a place of the history, counted from 0.
+    pub fn entry(&self, place: u64) -> EntryView<'_>
+        requires { place < length self.now.history }
+        ensures { slice_get self.now.history place ≡ Some (entry_of result) }
+    {
+        self.history.entry(place as usize)
+    }
+
+    /// The totals of the frames that passed.
+    pub fn totals(&self) -> Totals
+        ensures { result ≡ totals_of self.now.history }
+    {
+        self.totals
+    }
+
+    /// The limits that the adapter was made with.
+    pub fn limits(&self) -> Limits
+        ensures limits { result ≡ self.now.limits }
+        ensures ranges { AreLimits result }
+    {
+        self.limits
+    }
+}
