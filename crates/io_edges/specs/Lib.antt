@@ -1,3 +1,5 @@
 pub mod Faults
 pub mod Edge
 pub mod ShelfState
+pub mod Lent
+pub mod LentLaws

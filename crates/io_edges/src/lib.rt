@@ -3,8 +3,10 @@
 
 mod edge;
 mod gate;
+mod lent;
 mod shelf;
 
 pub use edge::{Failed, Sink, Source};
 pub use gate::{Gate, OpenGate};
+pub use lent::{ShelfSink, SlotSource};
 pub use shelf::{Shelf, Slot};
