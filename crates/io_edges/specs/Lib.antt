@@ -3,3 +3,7 @@ pub mod Edge
 pub mod ShelfState
 pub mod Lent
 pub mod LentLaws
+pub mod Plan
+pub mod Reading
+pub mod MemSourceState
+pub mod MemSinkState
