@@ -1,3 +1,9 @@
 pub mod Faults
 pub mod Edge
 pub mod ShelfState
+pub mod Lent
+pub mod LentLaws
+pub mod Plan
+pub mod Reading
+pub mod MemSourceState
+pub mod MemSinkState
