@@ -1,5 +1,6 @@
 pub mod Faults
 pub mod Edge
+pub mod ReadAll
 pub mod ShelfState
 pub mod Lent
 pub mod LentLaws

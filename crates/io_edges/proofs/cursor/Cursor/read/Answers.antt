@@ -1,4 +1,4 @@
-use Rattle.std.proofs.Common.{sym, ◌∙◌, ap, ◌≡◌, ℕ, min, Some}
+use Rattle.std.proofs.Common.{sym, ◌∙◌, ap, ℕ}
 use Rattle.io_edges.specs.Plan.{allowed}
 use Rattle.io_edges.proofs.Readings.{allowed-reading, reading_of-add}
 use Rattle.io_edges.proofs.cursor.Cursor.read.Goals as goal
