@@ -1,0 +1,5 @@
+pub mod Fields
+pub mod Key
+pub mod KeyBack
+pub mod Layers
+pub mod Payload
