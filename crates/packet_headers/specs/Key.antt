@@ -155,10 +155,11 @@ transport_in (l ∷ ls) udps = transport.Tcp (tcp_in l)
 abbrev pub outer_in : List LayerAt → Option Stack
 outer_in [] = None
 outer_in (l ∷ ls) = Some (record {
-    eth = eth_in l;
-    network = network_in (of_kind kind.Ipv4 ls) (of_kind kind.Ipv6 ls);
-    tags = tags_in (of_kind kind.Vlan ls);
-    transport = transport_in (of_kind kind.Tcp ls) (of_kind kind.Udp ls) })
+  eth = eth_in l;
+  network = network_in (of_kind kind.Ipv4 ls) (of_kind kind.Ipv6 ls);
+  tags = tags_in (of_kind kind.Vlan ls);
+  transport = transport_in (of_kind kind.Tcp ls) (of_kind kind.Udp ls);
+})
 
 abbrev pub tunnel_in : List LayerAt → Option Tunnel
 tunnel_in [] = None

@@ -20,14 +20,14 @@ Payloads = ℕ → List ℕ → List LayerAt
 abbrev pub transport_layers : Payloads → ℕ → ℕ → List ℕ → List LayerAt
 transport_layers inside protocol offset rest =
     if protocol == 6 then
-        (if nat_le 20 (length rest) then header kind.Tcp offset false rest ∷ [] else [])
+    (if nat_le 20 (length rest) then header kind.Tcp offset false rest ∷ [] else [])
     else
-        (if protocol == 17 then
-            (if nat_le 8 (length rest) then
-                header kind.Udp offset false rest
-                ∷ (if number_at 2 2 rest == 4789 then inside (offset + 8) (drop 8 rest) else [])
-            else [])
-        else [])
+    (if protocol == 17 then
+    (if nat_le 8 (length rest) then
+    header kind.Udp offset false rest
+    ∷ (if number_at 2 2 rest == 4789 then inside (offset + 8) (drop 8 rest) else [])
+    else [])
+    else [])
 
 -- the version and the header's length in words of 4 bytes, which share the first byte
 abbrev pub version : List ℕ → ℕ
@@ -51,19 +51,19 @@ is_first_fragment rest = number_at 6 2 rest % 8192 == 0
 abbrev pub network_layers : Payloads → ℕ → ℕ → List ℕ → List LayerAt
 network_layers inside ether_type offset rest =
     if ether_type == 0x0800 then
-        (if is_ipv4 rest then
-            header kind.Ipv4 offset false rest
-            ∷ (if is_first_fragment rest then
-                transport_layers inside (number_at 9 1 rest) (offset + words rest * 4) (drop (words rest * 4) rest)
-            else [])
-        else [])
+    (if is_ipv4 rest then
+    header kind.Ipv4 offset false rest
+    ∷ (if is_first_fragment rest then
+    transport_layers inside (number_at 9 1 rest) (offset + words rest * 4) (drop (words rest * 4) rest)
+    else [])
+    else [])
     else
-        (if ether_type == 0x86DD then
-            (if is_ipv6 rest then
-                header kind.Ipv6 offset false rest
-                ∷ transport_layers inside (number_at 6 1 rest) (offset + 40) (drop 40 rest)
-            else [])
-        else [])
+    (if ether_type == 0x86DD then
+    (if is_ipv6 rest then
+    header kind.Ipv6 offset false rest
+    ∷ transport_layers inside (number_at 6 1 rest) (offset + 40) (drop 40 rest)
+    else [])
+    else [])
 
 -- a VLAN layer follows: the type is a TPID, more tags may be read, and 4 bytes remain
 abbrev pub tag_follows : ℕ → ℕ → List ℕ → Bool
@@ -75,16 +75,16 @@ abbrev pub typed_layers : ℕ → Payloads → ℕ → ℕ → List ℕ → List
 typed_layers zero inside ether_type offset rest = network_layers inside ether_type offset rest
 typed_layers (suc more) inside ether_type offset rest =
     if tag_follows (suc more) ether_type rest then
-        header kind.Vlan offset (tag_follows more (number_at 2 2 rest) (drop 4 rest)) rest
-        ∷ typed_layers more inside (number_at 2 2 rest) (offset + 4) (drop 4 rest)
+    header kind.Vlan offset (tag_follows more (number_at 2 2 rest) (drop 4 rest)) rest
+    ∷ typed_layers more inside (number_at 2 2 rest) (offset + 4) (drop 4 rest)
     else network_layers inside ether_type offset rest
 
 -- an Ethernet frame, with at most two tags
 abbrev pub frame_layers : Payloads → ℕ → List ℕ → List LayerAt
 frame_layers inside offset rest =
     if nat_le 14 (length rest) then
-        header kind.Eth offset (tag_follows 2 (number_at 12 2 rest) (drop 14 rest)) rest
-        ∷ typed_layers 2 inside (number_at 12 2 rest) (offset + 14) (drop 14 rest)
+    header kind.Eth offset (tag_follows 2 (number_at 12 2 rest) (drop 14 rest)) rest
+    ∷ typed_layers 2 inside (number_at 12 2 rest) (offset + 14) (drop 14 rest)
     else []
 
 abbrev pub no_layers : Payloads
@@ -94,9 +94,9 @@ no_layers offset rest = []
 abbrev pub vxlan_layers : Payloads
 vxlan_layers offset rest =
     if nat_le 8 (length rest) then
-        (if bit_and (number_at 0 1 rest) 8 == 8 then
-            header kind.Vxlan offset false rest ∷ frame_layers no_layers (offset + 8) (drop 8 rest)
-        else [])
+    (if bit_and (number_at 0 1 rest) 8 == 8 then
+    header kind.Vxlan offset false rest ∷ frame_layers no_layers (offset + 8) (drop 8 rest)
+    else [])
     else []
 
 -- the layers of a frame

@@ -1,5 +1,3 @@
-
-
 /// The kinds of pattern item. All but `Void` are also kinds of header.
 #[derive(Clone, Copy, PartialEq, Eq, Debug, Default)]
 pub enum ItemKind {

@@ -20,6 +20,7 @@ pub use stacks::{Network, Stack, Tags, Transport, Tunnel};
 #[cfg(test)]
 mod tests {
     use super::*;
+
     #[test]
     fn size(rt: HostRuntime) {
         assert_eq!(rt; size_of::<Key>(), 240);

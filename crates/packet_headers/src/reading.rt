@@ -2,9 +2,9 @@ ghost use Rattle.std.specs.Prelude.{◌≡◌, ℕ, ◌+◌, ◌*◌, ◌%◌, �
 ghost use Rattle.std.specs.Bool.{OnTrue};
 ghost use Rattle.std.specs.Option.{ForSome};
 ghost use Rattle.packet_headers.specs.Fields.{number_at};
-ghost use Rattle.packet_headers.specs.Layers.{Payloads, layers, LieWithin, header, words, is_ipv4, is_ipv6, is_first_fragment, tag_follows, network_layers, transport_layers, frame_layers, no_layers, vxlan_layers};
+ghost use Rattle.packet_headers.specs.Layers.{Payloads, layers, LieWithin, header, words, is_ipv4, is_ipv6, is_first_fragment, tag_follows, network_layers, transport_layers, typed_layers, frame_layers, no_layers, vxlan_layers};
 ghost use Rattle.packet_headers.specs.Key as key;
-ghost use Rattle.packet_headers.specs.Payload.{payload_layers, carried_layers, upper_layers, reading_layers};
+ghost use Rattle.packet_headers.specs.Payload.{payload_layers, transport_reading, network_reading, typed_reading, frame_reading};
 ghost use Rattle.packet_headers.specs.declared.items.ItemKind.TheVariants as kind;
 
 use crate::headers::{Eth, Ipv4, Ipv6, Ipv6Address, Tag, Tcp, Udp, Vxlan};
@@ -14,11 +14,17 @@ use crate::stacks::{Network, Stack, Tags, Transport, Tunnel};
 
 /// The types and protocols that announce a header, and the port that announces VXLAN.
 const TAG_TYPE: u16 = 0x8100;
+
 const SERVICE_TAG_TYPE: u16 = 0x88a8;
+
 const IPV4_TYPE: u16 = 0x0800;
+
 const IPV6_TYPE: u16 = 0x86dd;
+
 const TCP_PROTOCOL: u8 = 6;
+
 const UDP_PROTOCOL: u8 = 17;
+
 const VXLAN_PORT: u16 = 4789;
 
 /// The flag of a VXLAN header with a valid network id.
@@ -31,18 +37,13 @@ struct Payload<'a> {
     offset: u8,
 }
 
-/// What a network header carries.
-#[derive(Clone, Copy)]
-struct Carried<'a> {
-    transport: Transport,
-    payload: Option<Payload<'a>>,
-}
-
-/// What stands behind an Ethernet header and its tags.
+/// What was read behind an Ethernet header.
 #[derive(Clone, Copy)]
 struct Upper<'a> {
+    tags: Tags,
     network: Network,
-    carried: Carried<'a>,
+    transport: Transport,
+    payload: Option<Payload<'a>>,
 }
 
 /// An Ethernet frame that was read.
@@ -198,125 +199,128 @@ fn is_ipv6(rest: &[u8]) -> bool
     u8_at(rest, 0) / 16 == 6
 }
 
-fn nothing() -> Carried<'static>
-    ensures { (inside : Payloads) → carried_layers inside result ≡ [] }
-{
-    Carried {
-        transport: Transport::None,
-        payload: None,
-    }
-}
-
-fn no_upper() -> Upper<'static>
-    ensures { (inside : Payloads) → upper_layers inside result ≡ [] }
+/// A transport header, if any, and what stands behind it.
+fn carried<'a>(transport: Transport, payload: Option<Payload<'a>>) -> Upper<'a>
+    ensures tags { result.tags ≡ Tags.None }
+    ensures network { result.network ≡ Network.None }
+    ensures transport { result.transport ≡ transport }
+    ensures payload { result.payload ≡ payload.entry }
 {
     Upper {
+        tags: Tags::None,
         network: Network::None,
-        carried: nothing(),
+        transport,
+        payload,
     }
 }
 
-/// The layers behind a network header, by the protocol that it names.
-fn read_transport(rest: &[u8], offset: u8, protocol: u8) -> Carried<'_>
+/// The transport header that a protocol announces.
+fn read_transport(rest: &[u8], offset: u8, protocol: u8) -> Upper<'_>
     requires { offset ≤ 180 }
-    ensures layers { (inside : Payloads) → carried_layers inside result ≡ transport_layers inside protocol offset rest.now }
+    ensures layers { (inside : Payloads) → transport_reading inside result ≡ transport_layers inside protocol offset rest.now }
     ensures payload { IfSome result.payload (λ p. p.offset ≡ offset + 8) }
 {
     if protocol == TCP_PROTOCOL {
         if rest.len() < 20 {
-            return nothing();
+            return carried(Transport::None, None);
         }
-        return Carried {
-            transport: Transport::Tcp(read_tcp(rest, offset)),
-            payload: None,
-        };
+        return carried(Transport::Tcp(read_tcp(rest, offset)), None);
     }
     if protocol != UDP_PROTOCOL {
-        return nothing();
+        return carried(Transport::None, None);
     }
     if rest.len() < 8 {
-        return nothing();
+        return carried(Transport::None, None);
     }
     let udp = read_udp(rest, offset);
     if udp.dst != VXLAN_PORT {
-        return Carried {
-            transport: Transport::Udp(udp),
-            payload: None,
-        };
+        return carried(Transport::Udp(udp), None);
     }
-    Carried {
-        transport: Transport::Udp(udp),
-        payload: Some(Payload {
-            bytes: behind(rest, 8),
-            offset: offset + 8,
-        }),
-    }
+    let payload = Payload {
+        bytes: behind(rest, 8),
+        offset: offset + 8,
+    };
+    carried(Transport::Udp(udp), Some(payload))
 }
 
 /// The network header that a type announces, and what it carries.
 fn read_network(rest: &[u8], offset: u8, ether_type: u16) -> Upper<'_>
     requires { offset ≤ 120 }
-    ensures layers { (inside : Payloads) → upper_layers inside result ≡ network_layers inside ether_type offset rest.now }
-    ensures payload { IfSome result.carried.payload (λ p. p.offset ≤ offset + 68) }
+    ensures layers { (inside : Payloads) → network_reading inside result ≡ network_layers inside ether_type offset rest.now }
+    ensures payload { IfSome result.payload (λ p. p.offset ≤ offset + 68) }
 {
     if ether_type == IPV4_TYPE {
         if !is_ipv4(rest) {
-            return no_upper();
+            return carried(Transport::None, None);
         }
         let header = read_ipv4(rest, offset);
         if u16_at(rest, 6) % 8192 != 0 {
-            return Upper {
-                network: Network::V4(header),
-                carried: nothing(),
-            };
+            let mut upper = carried(Transport::None, None);
+            upper.network = Network::V4(header);
+            return upper;
         }
         let len = u8_at(rest, 0) % 16 * 4;
-        return Upper {
-            network: Network::V4(header),
-            carried: read_transport(behind(rest, len as usize), offset + len, header.proto),
-        };
+        let mut upper = read_transport(behind(rest, len as usize), offset + len, header.proto);
+        upper.network = Network::V4(header);
+        return upper;
     }
     if ether_type != IPV6_TYPE {
-        return no_upper();
+        return carried(Transport::None, None);
     }
     if !is_ipv6(rest) {
-        return no_upper();
+        return carried(Transport::None, None);
     }
     let header = read_ipv6(rest, offset);
-    Upper {
-        network: Network::V6(header),
-        carried: read_transport(behind(rest, 40), offset + 40, header.proto),
-    }
+    let mut upper = read_transport(behind(rest, 40), offset + 40, header.proto);
+    upper.network = Network::V6(header);
+    upper
 }
 
-/// An Ethernet frame, where 14 bytes remain.
-fn read_frame(rest: &[u8], offset: u8) -> Option<Reading<'_>>
-    requires { offset ≤ 98 }
-    ensures layers { (inside : Payloads) → reading_layers inside result ≡ frame_layers inside offset rest.now }
-    ensures payload { IfSome result (λ r. IfSome r.payload (λ p. p.offset ≤ offset + 90)) }
+/// Up to two tags, and the network header behind them.
+fn read_typed(rest: &[u8], offset: u8, ether_type: u16) -> Upper<'_>
+    requires { offset ≤ 112 }
+    ensures layers { (inside : Payloads) → typed_reading inside result ≡ typed_layers 2 inside ether_type offset rest.now }
+    ensures payload { IfSome result.payload (λ p. p.offset ≤ offset + 76) }
 {
-    if rest.len() < 14 {
-        return None;
+    if !is_tag(rest, ether_type) {
+        let mut upper = read_network(rest, offset, ether_type);
+        upper.tags = Tags::None;
+        return upper;
     }
+    let inner_type = u16_at(rest, 2);
+    let behind_tag = behind(rest, 4);
+    if !is_tag(behind_tag, inner_type) {
+        let mut upper = read_network(behind_tag, offset + 4, inner_type);
+        upper.tags = Tags::One(read_tag(rest, offset, false));
+        return upper;
+    }
+    let first = read_tag(rest, offset, true);
+    let second = read_tag(behind_tag, offset + 4, false);
+    let mut upper = read_network(behind(behind_tag, 4), offset + 8, u16_at(behind_tag, 2));
+    upper.tags = Tags::Two(first, second);
+    upper
+}
+
+/// An Ethernet frame.
+fn read_frame(rest: &[u8], offset: u8) -> Reading<'_>
+    requires room { 14 ≤ length rest.now }
+    requires offset { offset ≤ 98 }
+    ensures layers { (inside : Payloads) → frame_reading inside result ≡ frame_layers inside offset rest.now }
+    ensures payload { IfSome result.payload (λ p. p.offset ≤ offset + 90) }
+{
     let ether_type = u16_at(rest, 12);
     let behind_eth = behind(rest, 14);
-    if !is_tag(behind_eth, ether_type) {
-        let eth = read_eth(rest, offset, false);
-        let upper = read_network(behind_eth, offset + 14, ether_type);
-        return Some(reading(eth, Tags::None, upper));
+    let eth = read_eth(rest, offset, is_tag(behind_eth, ether_type));
+    let upper = read_typed(behind_eth, offset + 14, ether_type);
+    Reading {
+        stack: Stack {
+            eth,
+            network: upper.network,
+            tags: upper.tags,
+            transport: upper.transport,
+        },
+        payload: upper.payload,
     }
-    let eth = read_eth(rest, offset, true);
-    let inner_type = u16_at(behind_eth, 2);
-    let behind_tag = behind(behind_eth, 4);
-    if !is_tag(behind_tag, inner_type) {
-        let tag = read_tag(behind_eth, offset + 14, false);
-        let upper = read_network(behind_tag, offset + 18, inner_type);
-        return Some(reading(eth, Tags::One(tag), upper));
-    }
-    let first = read_tag(behind_eth, offset + 14, true);
-    let second = read_tag(behind_tag, offset + 18, false);
-    let upper = read_network(behind(behind_tag, 4), offset + 22, u16_at(behind_tag, 2));
-    Some(reading(eth, Tags::Two(first, second), upper))
 }
 
 /// VXLAN and the frame inside it, where the flag of a valid network id is set.
@@ -345,44 +349,28 @@ fn read_inner(rest: &[u8], offset: u8) -> Option<Stack>
     requires { offset ≤ 98 }
     ensures { key.outer_layers result ≡ frame_layers no_layers offset rest.now }
 {
-    match read_frame(rest, offset) {
-        Some(reading) => Some(reading.stack),
-        None => None,
+    if rest.len() < 14 {
+        return None;
     }
-}
-
-fn reading(eth: Eth, tags: Tags, upper: Upper<'_>) -> Reading<'_>
-    ensures eth { result.stack.eth ≡ eth }
-    ensures tags { result.stack.tags ≡ tags }
-    ensures network { result.stack.network ≡ upper.entry.network }
-    ensures transport { result.stack.transport ≡ upper.entry.carried.transport }
-    ensures payload { result.payload ≡ upper.entry.carried.payload }
-{
-    Reading {
-        stack: Stack {
-            eth,
-            network: upper.network,
-            tags,
-            transport: upper.carried.transport,
-        },
-        payload: upper.carried.payload,
-    }
+    Some(read_frame(rest, offset).stack)
 }
 
 /// The layers of a frame, for any bytes: its headers up to the first that doesn't fit. They lie in
 /// the frame, in rising order and without overlap.
+#[tactic(auto, unfolding(crate::specs::Layers::layers))]
 pub fn parse(frame: &[u8]) -> Key
     ensures layers { result ≡ layers frame.now }
     ensures within { LieWithin 0 (length frame.now) result }
 {
-    match read_frame(frame, 0) {
-        Some(reading) => Key {
-            outer: Some(reading.stack),
-            tunnel: read_tunnel(reading.payload),
-        },
-        None => Key {
+    if frame.len() < 14 {
+        return Key {
             outer: None,
             tunnel: None,
-        },
+        };
+    }
+    let reading = read_frame(frame, 0);
+    Key {
+        outer: Some(reading.stack),
+        tunnel: read_tunnel(reading.payload),
     }
 }
