@@ -1,5 +1,5 @@
 -- The layers that a key holds, and the key that holds given layers.
-use Rattle.std.specs.Prelude.{ℕ, Bool, true, false, nat_eq, slice_index, if◌then◌else◌, Option, Some, None, List, [], ◌∷◌, ◌++◌}
+use Rattle.std.specs.Prelude.{ℕ, Bool, nat_eq, slice_index, if◌then◌else◌, Option, Some, None, List, [], ◌∷◌, ◌++◌}
 use Rattle.packet_headers.specs.declared.items.ItemKind.{ItemKind}
 use Rattle.packet_headers.specs.declared.items.ItemKind.TheVariants as kind
 use Rattle.packet_headers.specs.declared.items.Layer.{Layer}
@@ -21,58 +21,7 @@ use Rattle.packet_headers.specs.declared.stacks.Stack.{Stack}
 use Rattle.packet_headers.specs.declared.stacks.Tunnel.{Tunnel}
 use Rattle.packet_headers.specs.declared.keys.Key.TheInside.{Inside}
 use Rattle.packet_headers.specs.Fields.{number_of}
-
--- a layer of this kind, with these numbers
-abbrev pub layer_at : ItemKind → ℕ → List ℕ → LayerAt
-layer_at k offset v = record { layer = record { kind = k; v = v }; offset = offset }
-
-abbrev pub eth_layer : Eth → LayerAt
-eth_layer h = layer_at kind.Eth h.offset (h.dst ∷ h.src ∷ h.ether_type ∷ number_of h.has_vlan ∷ 0 ∷ 0 ∷ [])
-
-abbrev pub tag_layer : Tag → LayerAt
-tag_layer h = layer_at kind.Vlan h.offset (h.pcp ∷ h.dei ∷ h.vid ∷ h.inner_type ∷ number_of h.has_more_vlan ∷ 0 ∷ [])
-
-abbrev pub ipv4_layer : Ipv4 → LayerAt
-ipv4_layer h = layer_at kind.Ipv4 h.offset (h.tos ∷ h.ttl ∷ h.proto ∷ h.src ∷ h.dst ∷ 0 ∷ [])
-
-abbrev pub ipv6_layer : Ipv6 → LayerAt
-ipv6_layer h = layer_at kind.Ipv6 h.offset (h.tc ∷ h.flow ∷ h.proto ∷ h.hop ∷ h.src ∷ h.dst ∷ [])
-
-abbrev pub tcp_layer : Tcp → LayerAt
-tcp_layer h = layer_at kind.Tcp h.offset (h.src ∷ h.dst ∷ h.flags ∷ 0 ∷ 0 ∷ 0 ∷ [])
-
-abbrev pub udp_layer : Udp → LayerAt
-udp_layer h = layer_at kind.Udp h.offset (h.src ∷ h.dst ∷ 0 ∷ 0 ∷ 0 ∷ 0 ∷ [])
-
-abbrev pub vxlan_layer : Vxlan → LayerAt
-vxlan_layer h = layer_at kind.Vxlan h.offset (h.vni ∷ 0 ∷ 0 ∷ 0 ∷ 0 ∷ 0 ∷ [])
-
-abbrev pub tag_layers : Tags → List LayerAt
-tag_layers tags.None = []
-tag_layers (tags.One a) = tag_layer a ∷ []
-tag_layers (tags.Two a b) = tag_layer a ∷ tag_layer b ∷ []
-
-abbrev pub network_layers : Network → List LayerAt
-network_layers network.None = []
-network_layers (network.V4 h) = ipv4_layer h ∷ []
-network_layers (network.V6 h) = ipv6_layer h ∷ []
-
-abbrev pub transport_layers : Transport → List LayerAt
-transport_layers transport.None = []
-transport_layers (transport.Tcp h) = tcp_layer h ∷ []
-transport_layers (transport.Udp h) = udp_layer h ∷ []
-
--- the layers of one Ethernet frame
-abbrev pub stack_layers : Stack → List LayerAt
-stack_layers s = eth_layer s.eth ∷ (tag_layers s.tags ++ (network_layers s.network ++ transport_layers s.transport))
-
-abbrev pub outer_layers : Option Stack → List LayerAt
-outer_layers None = []
-outer_layers (Some s) = stack_layers s
-
-abbrev pub tunnel_layers : Option Tunnel → List LayerAt
-tunnel_layers None = []
-tunnel_layers (Some t) = vxlan_layer t.vxlan ∷ outer_layers t.inner
+use Rattle.packet_headers.specs.Stack.{outer_layers, tunnel_layers}
 
 -- the layers that a key holds
 abbrev pub layers_of : Inside → List LayerAt

@@ -14,7 +14,9 @@ use Rattle.packet_headers.specs.declared.stacks.Stack.{Stack}
 use Rattle.packet_headers.specs.declared.stacks.Tunnel.{Tunnel}
 use Rattle.packet_headers.specs.declared.keys.Key.TheInside.{Inside}
 use Rattle.packet_headers.specs.Fields.{number_of}
-use Rattle.packet_headers.specs.Key.{eth_layer, tag_layer, tag_layers, network_layers, transport_layers, stack_layers, outer_layers, tunnel_layers, layers_of, is_of, of_kind, in_front, from_vxlan, eth_in, tag_in, tags_in, network_in, transport_in, outer_in, tunnel_in, key_of}
+use Rattle.packet_headers.specs.Headers.{eth_layer, tag_layer}
+use Rattle.packet_headers.specs.Stack.{tag_layers, network_layers, transport_layers, stack_layers, outer_layers, tunnel_layers}
+use Rattle.packet_headers.specs.Key.{layers_of, is_of, of_kind, in_front, from_vxlan, eth_in, tag_in, tags_in, network_in, transport_in, outer_in, tunnel_in, key_of}
 
 flag-number : (b : Bool) → nat_eq (number_of b) 1 ≡ b
 flag-number true = refl

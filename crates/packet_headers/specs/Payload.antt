@@ -6,22 +6,22 @@ use Rattle.packet_headers.specs.declared.reading.Payload.{Payload}
 use Rattle.packet_headers.specs.declared.reading.Upper.{Upper}
 use Rattle.packet_headers.specs.declared.reading.Reading.{Reading}
 use Rattle.packet_headers.specs.Layers.{Payloads}
-use Rattle.packet_headers.specs.Key as key
+use Rattle.packet_headers.specs.Stack as stack
 
 abbrev pub payload_layers : Payloads → Option Payload → List LayerAt
 payload_layers inside None = []
 payload_layers inside (Some p) = inside p.offset p.bytes.now
 
 abbrev pub transport_reading : Payloads → Upper → List LayerAt
-transport_reading inside u = key.transport_layers u.transport ++ payload_layers inside u.payload
+transport_reading inside u = stack.transport_layers u.transport ++ payload_layers inside u.payload
 
 abbrev pub network_reading : Payloads → Upper → List LayerAt
 network_reading inside u =
-    (key.network_layers u.network ++ key.transport_layers u.transport) ++ payload_layers inside u.payload
+    (stack.network_layers u.network ++ stack.transport_layers u.transport) ++ payload_layers inside u.payload
 
 abbrev pub typed_reading : Payloads → Upper → List LayerAt
 typed_reading inside u =
-    (key.tag_layers u.tags ++ (key.network_layers u.network ++ key.transport_layers u.transport)) ++ payload_layers inside u.payload
+    (stack.tag_layers u.tags ++ (stack.network_layers u.network ++ stack.transport_layers u.transport)) ++ payload_layers inside u.payload
 
 abbrev pub frame_reading : Payloads → Reading → List LayerAt
-frame_reading inside r = key.stack_layers r.stack ++ payload_layers inside r.payload
+frame_reading inside r = stack.stack_layers r.stack ++ payload_layers inside r.payload

@@ -1,5 +1,7 @@
 ghost use Rattle.std.specs.Prelude.{◌≡◌};
+ghost use Rattle.packet_headers.specs.Headers.{eth_layer, tag_layer, ipv4_layer, ipv6_layer, tcp_layer, udp_layer, vxlan_layer};
 
+use crate::items::{ItemKind, Layer, LayerAt};
 use std::marker::Model;
 
 /// An Ethernet header.
@@ -16,6 +18,21 @@ pub struct Eth {
     pub offset: u8,
 }
 
+impl Eth {
+    /// The header as a layer.
+    pub fn layer(&self) -> LayerAt
+        ensures { result ≡ eth_layer self.now }
+    {
+        LayerAt {
+            layer: Layer {
+                kind: ItemKind::Eth,
+                v: [self.dst as u128, self.src as u128, self.ether_type as u128, self.has_vlan as u128, 0, 0],
+            },
+            offset: self.offset as usize,
+        }
+    }
+}
+
 /// A VLAN tag's control information, and the type behind it.
 #[derive(Clone, Copy)]
 pub struct Tag {
@@ -29,6 +46,21 @@ pub struct Tag {
     pub offset: u8,
 }
 
+impl Tag {
+    /// The header as a layer.
+    pub fn layer(&self) -> LayerAt
+        ensures { result ≡ tag_layer self.now }
+    {
+        LayerAt {
+            layer: Layer {
+                kind: ItemKind::Vlan,
+                v: [self.pcp as u128, self.dei as u128, self.vid as u128, self.inner_type as u128, self.has_more_vlan as u128, 0],
+            },
+            offset: self.offset as usize,
+        }
+    }
+}
+
 /// An IPv4 header without its options.
 #[derive(Clone, Copy)]
 pub struct Ipv4 {
@@ -39,6 +71,21 @@ pub struct Ipv4 {
     pub proto: u8,
     /// Where the header begins in the frame.
     pub offset: u8,
+}
+
+impl Ipv4 {
+    /// The header as a layer.
+    pub fn layer(&self) -> LayerAt
+        ensures { result ≡ ipv4_layer self.now }
+    {
+        LayerAt {
+            layer: Layer {
+                kind: ItemKind::Ipv4,
+                v: [self.tos as u128, self.ttl as u128, self.proto as u128, self.src as u128, self.dst as u128, 0],
+            },
+            offset: self.offset as usize,
+        }
+    }
 }
 
 /// An IPv6 header.
@@ -54,6 +101,21 @@ pub struct Ipv6 {
     pub offset: u8,
 }
 
+impl Ipv6 {
+    /// The header as a layer.
+    pub fn layer(&self) -> LayerAt
+        ensures { result ≡ ipv6_layer self.now }
+    {
+        LayerAt {
+            layer: Layer {
+                kind: ItemKind::Ipv6,
+                v: [self.tc as u128, self.flow as u128, self.proto as u128, self.hop as u128, self.src.number(), self.dst.number()],
+            },
+            offset: self.offset as usize,
+        }
+    }
+}
+
 /// A TCP header without its options.
 #[derive(Clone, Copy)]
 pub struct Tcp {
@@ -62,6 +124,21 @@ pub struct Tcp {
     pub flags: u8,
     /// Where the header begins in the frame.
     pub offset: u8,
+}
+
+impl Tcp {
+    /// The header as a layer.
+    pub fn layer(&self) -> LayerAt
+        ensures { result ≡ tcp_layer self.now }
+    {
+        LayerAt {
+            layer: Layer {
+                kind: ItemKind::Tcp,
+                v: [self.src as u128, self.dst as u128, self.flags as u128, 0, 0, 0],
+            },
+            offset: self.offset as usize,
+        }
+    }
 }
 
 /// A UDP header.
@@ -73,6 +150,21 @@ pub struct Udp {
     pub offset: u8,
 }
 
+impl Udp {
+    /// The header as a layer.
+    pub fn layer(&self) -> LayerAt
+        ensures { result ≡ udp_layer self.now }
+    {
+        LayerAt {
+            layer: Layer {
+                kind: ItemKind::Udp,
+                v: [self.src as u128, self.dst as u128, 0, 0, 0, 0],
+            },
+            offset: self.offset as usize,
+        }
+    }
+}
+
 /// A VXLAN header.
 #[derive(Clone, Copy)]
 pub struct Vxlan {
@@ -80,6 +172,21 @@ pub struct Vxlan {
     pub vni: u32,
     /// Where the header begins in the frame.
     pub offset: u8,
+}
+
+impl Vxlan {
+    /// The header as a layer.
+    pub fn layer(&self) -> LayerAt
+        ensures { result ≡ vxlan_layer self.now }
+    {
+        LayerAt {
+            layer: Layer {
+                kind: ItemKind::Vxlan,
+                v: [self.vni as u128, 0, 0, 0, 0, 0],
+            },
+            offset: self.offset as usize,
+        }
+    }
 }
 
 /// An IPv6 address: a number of 128 bits, kept in halves so that a header needs no alignment to 16

@@ -3,7 +3,8 @@ ghost use Rattle.std.specs.Bool.{OnTrue};
 ghost use Rattle.std.specs.Option.{ForSome};
 ghost use Rattle.packet_headers.specs.Fields.{number_at};
 ghost use Rattle.packet_headers.specs.Layers.{Payloads, layers, LieWithin, header, words, is_ipv4, is_ipv6, is_first_fragment, tag_follows, network_layers, transport_layers, typed_layers, frame_layers, no_layers, vxlan_layers};
-ghost use Rattle.packet_headers.specs.Key as key;
+ghost use Rattle.packet_headers.specs.Headers as headers;
+ghost use Rattle.packet_headers.specs.Stack as stack;
 ghost use Rattle.packet_headers.specs.Payload.{payload_layers, transport_reading, network_reading, typed_reading, frame_reading};
 ghost use Rattle.packet_headers.specs.declared.items.ItemKind.TheVariants as kind;
 
@@ -56,7 +57,7 @@ struct Reading<'a> {
 #[tactic(auto, unfolding(crate::specs::Layers::header))]
 fn read_eth(rest: &[u8], offset: u8, has_vlan: bool) -> Eth
     requires { 14 ≤ length rest.now }
-    ensures { key.eth_layer result ≡ header kind.Eth offset has_vlan rest.now }
+    ensures { headers.eth_layer result ≡ header kind.Eth offset has_vlan rest.now }
 {
     Eth {
         dst: u48_at(rest, 0),
@@ -70,7 +71,7 @@ fn read_eth(rest: &[u8], offset: u8, has_vlan: bool) -> Eth
 #[tactic(auto, unfolding(crate::specs::Layers::header))]
 fn read_tag(rest: &[u8], offset: u8, has_more_vlan: bool) -> Tag
     requires { 4 ≤ length rest.now }
-    ensures { key.tag_layer result ≡ header kind.Vlan offset has_more_vlan rest.now }
+    ensures { headers.tag_layer result ≡ header kind.Vlan offset has_more_vlan rest.now }
 {
     let control = u16_at(rest, 0);
     Tag {
@@ -86,7 +87,7 @@ fn read_tag(rest: &[u8], offset: u8, has_more_vlan: bool) -> Tag
 #[tactic(auto, unfolding(crate::specs::Layers::header))]
 fn read_ipv4(rest: &[u8], offset: u8) -> Ipv4
     requires { 20 ≤ length rest.now }
-    ensures layer { key.ipv4_layer result ≡ header kind.Ipv4 offset false rest.now }
+    ensures layer { headers.ipv4_layer result ≡ header kind.Ipv4 offset false rest.now }
     ensures proto { result.proto ≡ number_at 9 1 rest.now }
 {
     Ipv4 {
@@ -102,7 +103,7 @@ fn read_ipv4(rest: &[u8], offset: u8) -> Ipv4
 #[tactic(auto, unfolding(crate::specs::Layers::header))]
 fn read_ipv6(rest: &[u8], offset: u8) -> Ipv6
     requires { 40 ≤ length rest.now }
-    ensures layer { key.ipv6_layer result ≡ header kind.Ipv6 offset false rest.now }
+    ensures layer { headers.ipv6_layer result ≡ header kind.Ipv6 offset false rest.now }
     ensures proto { result.proto ≡ number_at 6 1 rest.now }
 {
     let first = u32_at(rest, 0);
@@ -120,7 +121,7 @@ fn read_ipv6(rest: &[u8], offset: u8) -> Ipv6
 #[tactic(auto, unfolding(crate::specs::Layers::header))]
 fn read_tcp(rest: &[u8], offset: u8) -> Tcp
     requires { 20 ≤ length rest.now }
-    ensures { key.tcp_layer result ≡ header kind.Tcp offset false rest.now }
+    ensures { headers.tcp_layer result ≡ header kind.Tcp offset false rest.now }
 {
     Tcp {
         src: u16_at(rest, 0),
@@ -133,7 +134,7 @@ fn read_tcp(rest: &[u8], offset: u8) -> Tcp
 #[tactic(auto, unfolding(crate::specs::Layers::header))]
 fn read_udp(rest: &[u8], offset: u8) -> Udp
     requires { 8 ≤ length rest.now }
-    ensures layer { key.udp_layer result ≡ header kind.Udp offset false rest.now }
+    ensures layer { headers.udp_layer result ≡ header kind.Udp offset false rest.now }
     ensures dst { result.dst ≡ number_at 2 2 rest.now }
 {
     Udp {
@@ -146,7 +147,7 @@ fn read_udp(rest: &[u8], offset: u8) -> Udp
 #[tactic(auto, unfolding(crate::specs::Layers::header))]
 fn read_vxlan(rest: &[u8], offset: u8) -> Vxlan
     requires { 8 ≤ length rest.now }
-    ensures { key.vxlan_layer result ≡ header kind.Vxlan offset false rest.now }
+    ensures { headers.vxlan_layer result ≡ header kind.Vxlan offset false rest.now }
 {
     Vxlan {
         vni: u24_at(rest, 4),
@@ -326,7 +327,7 @@ fn read_frame(rest: &[u8], offset: u8) -> Reading<'_>
 /// VXLAN and the frame inside it, where the flag of a valid network id is set.
 fn read_tunnel(payload: Option<Payload<'_>>) -> Option<Tunnel>
     requires { ForSome payload (λ p. p.offset ≤ 90) }
-    ensures { key.tunnel_layers result ≡ payload_layers vxlan_layers payload.entry }
+    ensures { stack.tunnel_layers result ≡ payload_layers vxlan_layers payload.entry }
 {
     let Some(payload) = payload else {
         return None;
@@ -347,7 +348,7 @@ fn read_tunnel(payload: Option<Payload<'_>>) -> Option<Tunnel>
 /// The frame inside a tunnel, in which no second VXLAN is read.
 fn read_inner(rest: &[u8], offset: u8) -> Option<Stack>
     requires { offset ≤ 98 }
-    ensures { key.outer_layers result ≡ frame_layers no_layers offset rest.now }
+    ensures { stack.outer_layers result ≡ frame_layers no_layers offset rest.now }
 {
     if rest.len() < 14 {
         return None;

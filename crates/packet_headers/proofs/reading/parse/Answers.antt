@@ -1,6 +1,6 @@
 use Rattle.std.proofs.Common.{◌≡◌, ℕ, sym, ap, ◌∙◌, subst, List, ◌++◌, length}
 use Rattle.packet_headers.specs.declared.items.LayerAt.{LayerAt}
-use Rattle.packet_headers.specs.Key.{stack_layers, tunnel_layers}
+use Rattle.packet_headers.specs.Stack.{stack_layers, tunnel_layers}
 use Rattle.packet_headers.specs.Layers.{LieWithin, layers, vxlan_layers}
 use Rattle.packet_headers.proofs.InOrder.{LieWithin-layers}
 use Rattle.packet_headers.proofs.reading.parse.Goals as goal
