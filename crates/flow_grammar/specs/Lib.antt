@@ -1,0 +1,5 @@
+pub mod Words
+pub mod Number
+pub mod Line
+pub mod Lines
+pub mod Program

@@ -1,0 +1,63 @@
+//! What one line asks for.
+ghost use Rattle.std.specs.Prelude.{◌≡◌, ◌<◌, ◌≤◌, List, [], ◌∷◌, length, slice_get, IfOk, IsTrue, ◌↔◌};
+
+use adapter::Op;
+use std::alloc::{AllocError, Global};
+use std::marker::Model;
+
+/// The ops that one line asks for, in order: at most 64, as many as the ids that a line may list.
+#[derive(Drop)]
+pub struct OpList {
+    ops: Vec<Op>,
+}
+
+impl Model for OpList {
+    ghost use Rattle.std.specs.Prelude.{◌≤◌, List, length};
+    ghost use Rattle.adapter.specs.declared.call.Op.{Op};
+
+    ghost Value = { List Op };
+
+    ghost view = { λ list. list.ops.items };
+
+    ghost invariant = { λ list. length list.ops.items ≤ 64 };
+}
+
+impl OpList {
+    /// The list of one op.
+    pub(crate) fn single(alloc: Global, op: Op) -> Result<OpList, AllocError>
+        ensures { IfOk result (λ list. list ≡ op ∷ []) }
+    {
+        let mut ops = Vec::new(alloc);
+        ops.push(op)?;
+        Ok(OpList { ops })
+    }
+
+    /// How many ops there are.
+    pub fn len(&self) -> usize
+        ensures { result ≡ length self.now }
+    {
+        self.ops.len()
+    }
+
+    pub fn is_empty(&self) -> bool
+        ensures { IsTrue result ↔ (self.now ≡ []) }
+    {
+        self.ops.is_empty()
+    }
+
+    /// The op at a place, counted from 0.
+    pub fn get(&self, i: usize) -> &Op
+        requires { i < length self.now }
+        ensures { slice_get self.now i ≡ Some result.now }
+    {
+        &self.ops[i]
+    }
+
+    /// All ops.
+    pub fn as_slice(&self) -> &[Op]
+        ensures value { result.now ≡ self.now }
+        ensures few { length self.now ≤ 64 }
+    {
+        self.ops.as_slice()
+    }
+}
