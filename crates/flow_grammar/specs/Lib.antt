@@ -3,3 +3,5 @@ pub mod Number
 pub mod Line
 pub mod Lines
 pub mod Program
+pub mod Reach
+pub mod Whole
