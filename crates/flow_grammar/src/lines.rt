@@ -1,8 +1,8 @@
 //! The lines of a script.
-ghost use Rattle.std.specs.Prelude.{◌≡◌, ◌==◌, IfOk, map};
+ghost use Rattle.std.specs.Prelude.{◌≡◌, ◌-◌, ◌==◌, IfOk, length, map, slice_get};
 ghost use Rattle.std.specs.List.{slice_split};
 ghost use Rattle.std.specs.Str.Lines.{strip_carriage_return};
-ghost use Rattle.flow_grammar.specs.Lines.{lines_with_returns};
+ghost use Rattle.flow_grammar.specs.Lines.{lines_with_returns, is_empty_line};
 
 use std::alloc::{AllocError, Global};
 
@@ -23,7 +23,9 @@ fn split_at_feeds(alloc: Global, script: &[u8]) -> Result<Vec<&[u8]>, AllocError
     script.split(|byte| *byte == b'\n').collect(alloc)
 }
 
+/// Whether there is a last line, and it is empty.
 fn ends_empty(lines: &[&[u8]]) -> bool
+    ensures { result ≡ is_empty_line (slice_get (map (λ line. line.now) lines.now) (length lines.now - 1)) }
 {
     match lines.last() {
         Some(line) => line.is_empty(),
