@@ -1,0 +1,4 @@
+pub mod Options
+pub mod Serial
+pub mod Due
+pub mod Feed
