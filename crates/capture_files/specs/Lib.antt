@@ -1,0 +1,5 @@
+pub mod Header
+pub mod Record
+pub mod Capture
+pub mod Fill
+pub mod Reader
