@@ -41,6 +41,10 @@ records_of format progress bytes = records_within (length bytes) format progress
 abbrev pub start : Progress
 start = record { place = 24; frames = 0; captured = 0 }
 
+-- the frames and the stop of a file's bytes, where the first record stands at that place
+unfoldable pub capture_from : Progress → List ℕ → Capture
+capture_from progress bytes = then_or_stop (header_of bytes) (λ format. records_of format progress (drop 24 bytes))
+
 -- the frames and the stop of a file's bytes
-unfoldable pub capture : List ℕ → Capture
-capture bytes = then_or_stop (header_of bytes) (λ format. records_of format start (drop 24 bytes))
+abbrev pub capture : List ℕ → Capture
+capture bytes = capture_from start bytes

@@ -2,4 +2,5 @@ pub mod Header
 pub mod Record
 pub mod Capture
 pub mod Fill
+pub mod Parts
 pub mod Reader

@@ -5,11 +5,15 @@ use Rattle.capture_files.specs.declared.header.Format.{Format}
 use Rattle.capture_files.specs.declared.record.Progress.{Progress}
 use Rattle.capture_files.specs.declared.reader.Next.{Next}
 use Rattle.capture_files.specs.declared.reader.Next.TheVariants as answers
-use Rattle.capture_files.specs.declared.reader.Stamp.{Stamp}
+use Rattle.capture_files.specs.declared.record.Stamp.{Stamp}
+use Rattle.capture_files.specs.declared.stop.Stop.{Stop}
 use Rattle.capture_files.specs.declared.stop.Stop.TheVariants as stops
+use Rattle.capture_files.specs.declared.parts.Halt.{Halt}
+use Rattle.capture_files.specs.declared.parts.Halt.TheVariants.{Stopped, Faulted}
 use Rattle.capture_files.specs.declared.record.TheConstants.{MAX_FRAME_LEN, MAX_FRAMES}
 use Rattle.capture_files.specs.Record.{Frame, behind}
-use Rattle.capture_files.specs.Capture.{Capture, capture, records_of, stopped, with_frame, start}
+use Rattle.capture_files.specs.Parts.{rest_from}
+use Rattle.capture_files.specs.Capture.{Capture, stopped, with_frame, start}
 
 -- A reader: the form of the file, once its header was read, how far it has come, and whether it has ended.
 pub record ReaderState : Type 0 where
@@ -21,13 +25,9 @@ pub record ReaderState : Type 0 where
 abbrev pub opening : ReaderState
 opening = record { format = None; progress = start; ended = false }
 
-abbrev pub records_or_capture : Option Format → Progress → List ℕ → Capture
-records_or_capture None progress bytes = capture bytes
-records_or_capture (Some format) progress bytes = records_of format progress bytes
-
 -- the frames and the stop that are still to come where the source has those bytes left
 abbrev pub rest_of : ReaderState → List ℕ → Capture
-rest_of reader bytes = records_or_capture reader.format reader.progress bytes
+rest_of reader bytes = rest_from reader.format reader.progress bytes
 
 -- the bytes, where they are told
 abbrev pub told : Option (List ℕ) → List ℕ
@@ -79,3 +79,13 @@ Counts old new answers.End = Unit {0}
 Counts old new (answers.Bad place kind) = Unit {0}
 Counts old new (answers.Large place) = Unit {0}
 Counts old new answers.ReadFault = Unit {0}
+
+-- the answer where a part didn't come
+abbrev pub answer_of_stop : Stop → Next
+answer_of_stop stops.End = answers.End
+answer_of_stop (stops.Bad place kind) = answers.Bad place kind
+answer_of_stop (stops.Large place) = answers.Large place
+
+abbrev pub answer_of : Halt → Next
+answer_of (Stopped stop) = answer_of_stop stop
+answer_of Faulted = answers.ReadFault

@@ -20,19 +20,18 @@ pub record Frame : Type 0 where
 -- a record's header, its first 16 bytes
 abbrev pub record_header : Format → List ℕ → RecordHeader
 record_header format bytes = record {
-  seconds = number_of format 4 bytes;
-  part = number_of format 4 (drop 4 bytes);
+  stamp = record { seconds = number_of format 4 bytes; part = number_of format 4 (drop 4 bytes); nano = is_nano format };
   captured_len = number_of format 4 (drop 8 bytes);
   wire_len = number_of format 4 (drop 12 bytes);
 }
 
 -- the frame of a record with that header and those captured bytes
-abbrev pub frame_of : Format → RecordHeader → List ℕ → Frame
-frame_of format header captured = record {
+abbrev pub frame_of : RecordHeader → List ℕ → Frame
+frame_of header captured = record {
   bytes = captured;
-  seconds = header.seconds;
-  part = header.part;
-  nano = is_nano format;
+  seconds = header.stamp.seconds;
+  part = header.stamp.part;
+  nano = header.stamp.nano;
   wire_len = header.wire_len;
 }
 
@@ -44,11 +43,11 @@ refusal_of progress captured_len =
     else None
 
 -- the frame of a record with that header and the bytes behind it, where it isn't refused or cut
-abbrev pub frame_behind : Option Stop → Format → RecordHeader → Progress → List ℕ → Result Frame Stop
-frame_behind (Some stop) format header progress bytes = Err stop
-frame_behind None format header progress bytes =
+abbrev pub frame_behind : Option Stop → RecordHeader → Progress → List ℕ → Result Frame Stop
+frame_behind (Some stop) header progress bytes = Err stop
+frame_behind None header progress bytes =
     if nat_lt (length bytes) header.captured_len then Err (Bad progress.place RecordCut)
-    else Ok (frame_of format header (take header.captured_len bytes))
+    else Ok (frame_of header (take header.captured_len bytes))
 
 -- the frame of the record at the front of the bytes, or why there is none
 abbrev pub record_at : Format → Progress → List ℕ → Result Frame Stop
@@ -56,7 +55,7 @@ record_at format progress bytes =
     if length bytes == 0 then Err End
     else if nat_lt (length bytes) 16 then Err (Bad progress.place RecordCut)
     else (let header = record_header format bytes in
-    frame_behind (refusal_of progress header.captured_len) format header progress (drop 16 bytes))
+    frame_behind (refusal_of progress header.captured_len) header progress (drop 16 bytes))
 
 -- behind a record of that captured length
 abbrev pub behind : Progress → ℕ → Progress

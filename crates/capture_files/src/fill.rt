@@ -5,6 +5,7 @@ ghost use Rattle.capture_files.specs.Fill.{Fills};
 use io_edges::Source;
 
 /// How the filling of a buffer ended.
+#[derive(Clone, Copy)]
 pub enum Filled {
     /// Each byte of the buffer was given.
     Whole,

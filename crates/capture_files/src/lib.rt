@@ -3,10 +3,11 @@
 
 mod fill;
 mod header;
+mod parts;
 mod reader;
 mod record;
 mod stop;
 
-pub use reader::{CaptureReader, Next, Stamp};
-pub use record::MAX_FRAME_LEN;
+pub use reader::{CaptureReader, Next};
+pub use record::{MAX_FRAME_LEN, Stamp};
 pub use stop::CaptureKind;

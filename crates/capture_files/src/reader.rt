@@ -1,20 +1,14 @@
 //! The reader of captures: one record a call.
-ghost use Rattle.std.specs.Prelude.{◌≡◌, ◌≤◌, false, not, length, is_some, IsSome};
+ghost use Rattle.std.specs.Prelude.{◌≡◌, ◌≤◌, false, not, length, is_some, IsSome, IfOk, MatchResult};
+ghost use Rattle.capture_files.specs.Record.{IsWithinLimits, behind};
+ghost use Rattle.capture_files.specs.Parts.{ReadsFrame, PartCause};
 
-use crate::fill::{Filled, fill};
-use crate::header::{Format, HEADER_LEN, read_header};
-use crate::record::{MAX_FRAME_LEN, Progress, RECORD_HEADER_LEN, RecordHeader};
+use crate::header::Format;
+use crate::parts::{Halt, next_header, next_record};
+use crate::record::{MAX_FRAME_LEN, Progress, RecordHeader, Stamp};
 use crate::stop::{CaptureKind, Stop};
 use io_edges::Source;
 use std::marker::Model;
-
-/// When a frame was captured: the seconds, and the part of a second in microseconds, or nanoseconds where `nano` is set.
-#[derive(Clone, Copy, Debug, PartialEq, Eq)]
-pub struct Stamp {
-    pub seconds: u32,
-    pub part: u32,
-    pub nano: bool,
-}
 
 /// What the next record is, or why there is none. A place counts the bytes of the file in front of it.
 #[derive(Clone, Copy, Debug, PartialEq, Eq)]
@@ -40,12 +34,17 @@ pub enum Next {
     ReadFault,
 }
 
-impl From<Stop> for Next {
-    fn from(stop: Stop) -> Next {
-        match stop {
-            Stop::End => Next::End,
-            Stop::Bad { place, kind } => Next::Bad { place, kind },
-            Stop::Large { place } => Next::Large { place },
+impl From<Halt> for Next {
+    ghost use Rattle.capture_files.specs.Reader.{answer_of};
+
+    ghost from_gives = { λ halt answer. answer ≡ answer_of halt };
+
+    fn from(halt: Halt) -> Next {
+        match halt {
+            Halt::Stopped(Stop::End) => Next::End,
+            Halt::Stopped(Stop::Bad { place, kind }) => Next::Bad { place, kind },
+            Halt::Stopped(Stop::Large { place }) => Next::Large { place },
+            Halt::Faulted => Next::ReadFault,
         }
     }
 }
@@ -109,11 +108,43 @@ impl CaptureReader {
         ensures later { S.faults source.old ≤ S.faults source.new }
         ensures keeps { S.keeps source.old source.new }
     {
-        let answer = match self.open(source) {
-            Ok(format) => next_record(format, &mut self.progress, source, buf),
-            Err(answer) => answer,
-        };
-        self.ended = !matches!(answer, Next::Frame { .. });
-        answer
+        match next_frame(&mut self.format, &mut self.progress, source, buf) {
+            Ok(header) => Next::Frame {
+                len: header.captured_len,
+                wire_len: header.wire_len,
+                stamp: header.stamp,
+            },
+            Err(halt) => {
+                self.ended = true;
+                Next::from(halt)
+            }
+        }
     }
+}
+
+/// Reads the file header, if it wasn't read, and the next record.
+fn next_frame<S: Source>(
+    format: &mut Option<Format>,
+    progress: &mut Progress,
+    source: &mut S,
+    buf: &mut [u8],
+) -> Result<RecordHeader, Halt>
+    requires within { IsWithinLimits progress.old }
+    requires room { MAX_FRAME_LEN ≤ length buf.old }
+    ensures reads { ReadsFrame format.old progress.old format.new progress.new (S.left source.old) (S.left source.new) result buf.new }
+    ensures progress { MatchResult result (λ header. progress.new ≡ behind progress.old header.captured_len) (λ _. progress.new ≡ progress.old) }
+    ensures within { IsWithinLimits progress.new }
+    ensures short { IfOk result (λ header. header.captured_len ≤ MAX_FRAME_LEN) }
+    ensures told { is_some (S.left source.new) ≡ is_some (S.left source.old) }
+    ensures cause { PartCause (S.faults source.old) (S.faults source.new) result }
+    ensures keeps { S.keeps source.old source.new }
+{
+    let known = match *format {
+        Some(known) => known,
+        None => next_header(source)?,
+    };
+    *format = Some(known);
+    let header = next_record(known, *progress, source, buf)?;
+    *progress = progress.behind(header.captured_len);
+    Ok(header)
 }

@@ -17,11 +17,18 @@ pub const MAX_FRAMES: u32 = 65_536;
 /// The most captured bytes of all frames of a capture together.
 pub const MAX_CAPTURED: u32 = 16_777_216;
 
+/// When a frame was captured: the seconds, and the part of a second in microseconds, or nanoseconds where `nano` is set.
+#[derive(Clone, Copy, Debug, PartialEq, Eq)]
+pub struct Stamp {
+    pub seconds: u32,
+    pub part: u32,
+    pub nano: bool,
+}
+
 /// What a record's header says.
 #[derive(Clone, Copy, Debug, PartialEq, Eq)]
 pub struct RecordHeader {
-    pub seconds: u32,
-    pub part: u32,
+    pub stamp: Stamp,
     pub captured_len: u32,
     pub wire_len: u32,
 }
@@ -32,8 +39,11 @@ impl RecordHeader {
         ensures { result ≡ record_header format header.now }
     {
         RecordHeader {
-            seconds: format.read_u32(header),
-            part: format.read_u32(&header[4..]),
+            stamp: Stamp {
+                seconds: format.read_u32(header),
+                part: format.read_u32(&header[4..]),
+                nano: format.is_nano(),
+            },
             captured_len: format.read_u32(&header[8..]),
             wire_len: format.read_u32(&header[12..]),
         }
@@ -72,6 +82,16 @@ impl Progress {
             return Some(Stop::Large { place: self.place });
         }
         None
+    }
+
+    /// The stop where the file ends within the record.
+    pub fn cut(self) -> Stop
+        ensures { result ≡ Stop.Bad self.place CaptureKind.RecordCut }
+    {
+        Stop::Bad {
+            place: self.place,
+            kind: CaptureKind::RecordCut,
+        }
     }
 
     /// How far the reader has come behind a record of that captured length.
