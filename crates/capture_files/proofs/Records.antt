@@ -1,10 +1,11 @@
 -- The records of a file, one after the other.
-use Rattle.std.proofs.Common.{◌≡◌, ℕ, zero, suc, ◌+◌, ◌-◌, ◌≤◌, ◌<◌, List, [], ◌∷◌, ◌++◌, length, take, drop, Option, None, Some, Result, Ok, Err, refl, sym, ap, ◌∙◌, subst, arith, length-append, length-drop, le_refl, inl, inr}
+use Rattle.std.proofs.Common.{◌≡◌, ℕ, zero, suc, ◌+◌, ◌-◌, ◌≤◌, ◌<◌, List, [], ◌∷◌, ◌++◌, length, take, drop, Option, None, Some, Result, Ok, Err, refl, sym, ap, ◌∙◌, subst, rules, arith, length-append, length-drop, le_refl, inl, inr}
 use Rattle.std.proofs.lemmas.Bool.{cond-true, cond-false, le-ltb, lt-ltb, eq-eqb, ne_eqb, cases_eq}
 use lib.Seq.{drop_at, take-append_seam, drop-append-add, drop-append_seam}
 use Rattle.capture_files.specs.declared.header.Format.{Format}
 use Rattle.capture_files.specs.declared.record.RecordHeader.{RecordHeader}
 use Rattle.capture_files.specs.declared.record.Progress.{Progress}
+use Rattle.capture_files.specs.declared.record.TheConstants.{MAX_FRAME_LEN}
 use Rattle.capture_files.specs.declared.stop.Stop.{Stop}
 use Rattle.capture_files.specs.declared.stop.Stop.TheVariants.{End, Bad}
 use Rattle.capture_files.specs.declared.stop.CaptureKind.TheVariants.{RecordCut}
@@ -36,6 +37,10 @@ record_at-header format progress header xs ys h is =
     ∙ ap (λ r. frame_behind (refusal_of progress r.captured_len) r progress (drop 16 (xs ++ ys))) (record_header-front format xs ys h ∙ sym is)
     ∙ ap (frame_behind (refusal_of progress header.captured_len) header progress) (drop_at xs ys 16 h)
 
+-- a record that isn't refused is short
+pub refusal_of-none : (progress : Progress) (captured_len : ℕ) → refusal_of progress captured_len ≡ None → captured_len ≤ MAX_FRAME_LEN
+refusal_of-none progress captured_len allowed = search rules
+
 -- ---- the records behind it
 
 then_or_stop-same : {X : Type 0} (r : Result X Stop) (f g : X → Capture) → ((x : X) → f x ≡ g x) → then_or_stop r f ≡ then_or_stop r g
@@ -64,8 +69,8 @@ records_within-enough zero m format progress bytes h k = sym (records_within-non
 records_within-enough (suc n) zero format progress bytes h k = records_within-none (suc n) format progress bytes k
 records_within-enough (suc n) (suc m) format progress bytes h k =
     then_or_stop-same (record_at format progress bytes) (frame_within n format progress bytes) (frame_within m format progress bytes) (λ frame.
-        let less = length-drop (16 + length frame.bytes) bytes in
-        ap (with_frame frame) (records_within-enough n m format (behind progress (length frame.bytes)) (drop (16 + length frame.bytes) bytes) (omega arith) (omega arith)))
+    let less = length-drop (16 + length frame.bytes) bytes in
+    ap (with_frame frame) (records_within-enough n m format (behind progress (length frame.bytes)) (drop (16 + length frame.bytes) bytes) (omega arith) (omega arith)))
 
 -- The records of some bytes are the first, and then the records of the rest.
 pub records_of-step : (format : Format) (progress : Progress) (bytes : List ℕ)
@@ -74,8 +79,8 @@ unfolding records_of
 records_of-step format progress [] = refl
 records_of-step format progress (x ∷ xs) =
     then_or_stop-same (record_at format progress (x ∷ xs)) (frame_within (length xs) format progress (x ∷ xs)) (frame_then format progress (x ∷ xs)) (λ frame.
-        let less = length-drop (16 + length frame.bytes) (x ∷ xs) in
-        ap (with_frame frame) (records_within-enough (length xs) _ format (behind progress (length frame.bytes)) (drop (16 + length frame.bytes) (x ∷ xs)) (omega arith) (le_refl _)))
+    let less = length-drop (16 + length frame.bytes) (x ∷ xs) in
+    ap (with_frame frame) (records_within-enough (length xs) _ format (behind progress (length frame.bytes)) (drop (16 + length frame.bytes) (x ∷ xs)) (omega arith) (le_refl _)))
 
 records_of-stop : (format : Format) (progress : Progress) (stop : Stop) (bytes : List ℕ) → record_at format progress bytes ≡ Err stop
     → records_of format progress bytes ≡ stopped stop
@@ -95,8 +100,9 @@ records_of-short format progress bytes some few = records_of-stop format progres
 pub records_of-unfinished : (format : Format) (progress : Progress) (bytes : List ℕ) → length bytes < 16 → IsUnfinished (records_of format progress bytes)
 records_of-unfinished format progress bytes few =
     elim (cases_eq (length bytes) 0) [
-    | inl none ↦ unfinished _ End (records_of-none format progress bytes none) tt
-    | inr some ↦ unfinished _ _ (records_of-short format progress bytes (omega arith) few) tt ]
+      | inl none ↦ unfinished _ End (records_of-none format progress bytes none) tt
+      | inr some ↦ unfinished _ _ (records_of-short format progress bytes (omega arith) few) tt
+    ]
 
 module _ (format : Format) (progress : Progress) (header : RecordHeader) (xs : List ℕ) (h : length xs ≡ 16) (is : header ≡ record_header format xs) where
   -- the record is refused

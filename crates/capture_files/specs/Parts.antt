@@ -50,6 +50,17 @@ ReadsHeader old new result = (progress : Progress) → MatchResult result
     (λ format. Gave old new (λ given. (rest : List ℕ) → capture_from progress (given ++ rest) ≡ records_of format progress rest))
     (HaltTells (capture_from progress) old new)
 
+-- The frames and the stop of those bytes, behind a file header of that form, or with the file header.
+abbrev pub rest_from : Option Format → Progress → List ℕ → Capture
+rest_from None progress bytes = capture_from progress bytes
+rest_from (Some format) progress bytes = records_of format progress bytes
+
+-- the form is known, and the records are left
+abbrev pub ReadsFormat : Option Format → Option (List ℕ) → Option (List ℕ) → Result Format Halt → Type 0
+ReadsFormat known old new result = (progress : Progress) → MatchResult result
+    (λ format. Gave old new (λ given. (rest : List ℕ) → rest_from known progress (given ++ rest) ≡ records_of format progress rest))
+    (HaltTells (rest_from known progress) old new)
+
 -- a record's header came
 abbrev pub ReadsRecordHeader : Format → Progress → Option (List ℕ) → Option (List ℕ) → Result RecordHeader Halt → Type 0
 ReadsRecordHeader format progress old new result = MatchResult result
@@ -62,11 +73,6 @@ ReadsRecord format progress old new result buf = MatchResult result
     (λ header. Gave old new (λ given. (rest : List ℕ) → records_of format progress (given ++ rest)
     ≡ with_frame (frame_of header (take header.captured_len buf)) (records_of format (behind progress header.captured_len) rest)))
     (HaltTells (records_of format progress) old new)
-
--- The frames and the stop of those bytes, behind a file header of that form, or with the file header.
-abbrev pub rest_from : Option Format → Progress → List ℕ → Capture
-rest_from None progress bytes = capture_from progress bytes
-rest_from (Some format) progress bytes = records_of format progress bytes
 
 -- a frame came, and its file header with it where it wasn't read before
 abbrev pub ReadsFrame : Option Format → Progress → Option Format → Progress → Option (List ℕ) → Option (List ℕ) → Result RecordHeader Halt → List ℕ → Type 0

@@ -1,7 +1,7 @@
 //! The parts of a file as they come from a source: the file header, and a record.
 ghost use Rattle.std.specs.Prelude.{◌≡◌, ◌≤◌, length, is_some, IfOk, None};
 ghost use Rattle.capture_files.specs.Record.{IsWithinLimits, refusal_of};
-ghost use Rattle.capture_files.specs.Parts.{ReadsHeader, ReadsRecordHeader, ReadsRecord, PartCause};
+ghost use Rattle.capture_files.specs.Parts.{ReadsHeader, ReadsFormat, ReadsRecordHeader, ReadsRecord, PartCause};
 
 use crate::fill::{Filled, fill};
 use crate::header::{Format, HEADER_LEN, read_header};
@@ -36,6 +36,19 @@ pub fn next_header<S: Source>(source: &mut S) -> Result<Format, Halt>
             kind: CaptureKind::HeaderCut,
         })),
         Filled::Fault => Err(Halt::Faulted),
+    }
+}
+
+/// The form of the file, for which the file header is read where the form isn't known.
+pub fn known_format<S: Source>(format: Option<Format>, source: &mut S) -> Result<Format, Halt>
+    ensures reads { ReadsFormat format (S.left source.old) (S.left source.new) result }
+    ensures told { is_some (S.left source.new) ≡ is_some (S.left source.old) }
+    ensures cause { PartCause (S.faults source.old) (S.faults source.new) result }
+    ensures keeps { S.keeps source.old source.new }
+{
+    match format {
+        Some(known) => Ok(known),
+        None => next_header(source),
     }
 }
 

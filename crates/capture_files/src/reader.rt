@@ -4,7 +4,7 @@ ghost use Rattle.capture_files.specs.Record.{IsWithinLimits, behind};
 ghost use Rattle.capture_files.specs.Parts.{ReadsFrame, PartCause};
 
 use crate::header::Format;
-use crate::parts::{Halt, next_header, next_record};
+use crate::parts::{Halt, known_format, next_record};
 use crate::record::{MAX_FRAME_LEN, Progress, RecordHeader, Stamp};
 use crate::stop::{CaptureKind, Stop};
 use io_edges::Source;
@@ -139,10 +139,7 @@ fn next_frame<S: Source>(
     ensures cause { PartCause (S.faults source.old) (S.faults source.new) result }
     ensures keeps { S.keeps source.old source.new }
 {
-    let known = match *format {
-        Some(known) => known,
-        None => next_header(source)?,
-    };
+    let known = known_format(*format, source)?;
     *format = Some(known);
     let header = next_record(known, *progress, source, buf)?;
     *progress = progress.behind(header.captured_len);
