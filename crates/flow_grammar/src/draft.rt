@@ -6,10 +6,18 @@ ghost use Rattle.flow_grammar.specs.Program.{parts_from, calls_at, section_of, p
 
 use crate::call_list::CallList;
 use crate::line::Line;
-use crate::part::{Opening, Part};
+use crate::op_list::MOST_OPS;
+use crate::part::Part;
 use adapter::{At, BadKind, Call, Op};
 use std::alloc::{AllocError, Global};
 use std::mem;
+
+/// How the phase that is open began.
+#[derive(Clone, Copy)]
+struct Opening {
+    call: Call,
+    count: Option<u32>,
+}
 
 /// The parts that are whole, and the calls of the section or of the phase that is open.
 #[derive(Drop)]
@@ -51,7 +59,9 @@ impl Draft {
         ensures { OnOk result ((rest : List Line) → self.new.parts.items ++ parts_from self.new.opening self.new.calls (number + 1) rest ≡ self.old.parts.items ++ parts_from self.old.opening self.old.calls number (Line.Start count ∷ rest)) }
     {
         if self.opening.is_some() {
-            return self.calls.push(call_at(number, 1, Op::Bad(BadKind::AlreadyStarted)));
+            return self
+                .calls
+                .push(call_at(number, 1, Op::Bad(BadKind::AlreadyStarted)));
         }
         self.end_section(alloc)?;
         let call = call_at(number, 1, Op::Start(count));
@@ -64,7 +74,9 @@ impl Draft {
         ensures { OnOk result ((rest : List Line) → self.new.parts.items ++ parts_from self.new.opening self.new.calls (number + 1) rest ≡ self.old.parts.items ++ parts_from self.old.opening self.old.calls number (Line.Stop ∷ rest)) }
     {
         let Some(opening) = self.opening else {
-            return self.calls.push(call_at(number, 1, Op::Bad(BadKind::NotStarted)));
+            return self
+                .calls
+                .push(call_at(number, 1, Op::Bad(BadKind::NotStarted)));
         };
         self.end_phase(alloc, number, opening)
     }
@@ -108,7 +120,11 @@ impl Draft {
             Some(opening) => self.end_phase(alloc, number, opening)?,
             None => self.end_section(alloc)?,
         }
-        let Draft { parts, opening: _, calls: _ } = self;
+        let Draft {
+            parts,
+            opening: _,
+            calls: _,
+        } = self;
         Ok(parts)
     }
 }
@@ -124,7 +140,7 @@ fn call_at(line: u32, part: u16, op: Op) -> Call
 
 /// Puts the calls of a line behind the others.
 fn add_ops(calls: &mut CallList, line: u32, ops: &[Op]) -> Result<(), AllocError>
-    requires { length ops.now ≤ 64 }
+    requires { length ops.now ≤ MOST_OPS }
     ensures { OnOk result (calls.new ≡ calls.old ++ calls_at line 1 ops.now) }
 {
     let mut part: u16 = 1;

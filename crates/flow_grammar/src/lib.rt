@@ -8,13 +8,11 @@ mod lines;
 mod number;
 mod op_list;
 mod part;
-mod part_list;
 mod script;
 mod words;
 
 pub use call_list::CallList;
 pub use line::{Line, read_line};
 pub use op_list::OpList;
-pub use part::Part;
-pub use part_list::Program;
+pub use part::{Part, Program};
 pub use script::program;

@@ -9,5 +9,5 @@ abbrev pub invariant-loop-line : goal.invariant-loop-line
 invariant-loop-line l =
     (l.number ≡ l.line-index + 1)
     × (l.draft.parts.items ++ parts_from l.draft.opening l.draft.calls l.number
-            (map line_of (map strip_carriage_return (map (λ line. line.now) (drop l.line-index l.lines.items))))
-        ≡ program_of l.fn.script)
+    (map line_of (map strip_carriage_return (map (λ line. line.now) (drop l.line-index l.line-items))))
+    ≡ program_of l.fn.script)
