@@ -3,3 +3,4 @@ pub mod Number
 pub mod Line
 pub mod Lines
 pub mod Program
+pub mod Draft

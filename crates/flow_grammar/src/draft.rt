@@ -1,8 +1,8 @@
 //! A program as far as its lines were read.
-ghost use Rattle.std.specs.Prelude.{◌≡◌, ◌+◌, ◌<◌, ◌≤◌, ◌^◌, List, ◌∷◌, ◌++◌, [], IfOk, OnOk, length};
-ghost use Rattle.flow_grammar.specs.declared.line.Line.{Line};
+ghost use Rattle.std.specs.Prelude.{◌≡◌, ◌≤◌, ◌∷◌, ◌++◌, [], IfOk, OnOk, length};
+ghost use Rattle.flow_grammar.specs.Draft.{program_with, TakesIn};
 ghost use Rattle.flow_grammar.specs.Program as spec;
-ghost use Rattle.flow_grammar.specs.Program.{parts_from, calls_at, section_of, phase_of};
+ghost use Rattle.flow_grammar.specs.Program.{calls_at, section_of, phase_of};
 
 use crate::call_list::CallList;
 use crate::line::Line;
@@ -43,7 +43,7 @@ impl Draft {
 
     /// Adds the line of this number.
     pub(crate) fn add(&mut self, alloc: Global, number: u32, line: Line) -> Result<(), AllocError>
-        ensures { OnOk result ((rest : List Line) → self.new.parts.items ++ parts_from self.new.opening self.new.calls (number + 1) rest ≡ self.old.parts.items ++ parts_from self.old.opening self.old.calls number (line ∷ rest)) }
+        ensures { OnOk result (TakesIn self.old self.new number line) }
     {
         match line {
             Line::Calls(ops) => add_ops(&mut self.calls, number, ops.as_slice()),
@@ -56,7 +56,7 @@ impl Draft {
 
     /// Opens a phase, unless one is open.
     fn start(&mut self, alloc: Global, number: u32, count: Option<u32>) -> Result<(), AllocError>
-        ensures { OnOk result ((rest : List Line) → self.new.parts.items ++ parts_from self.new.opening self.new.calls (number + 1) rest ≡ self.old.parts.items ++ parts_from self.old.opening self.old.calls number (Line.Start count ∷ rest)) }
+        ensures { OnOk result (TakesIn self.old self.new number (Line.Start count)) }
     {
         if self.opening.is_some() {
             return self
@@ -71,7 +71,7 @@ impl Draft {
 
     /// Closes the phase that is open.
     fn stop(&mut self, alloc: Global, number: u32) -> Result<(), AllocError>
-        ensures { OnOk result ((rest : List Line) → self.new.parts.items ++ parts_from self.new.opening self.new.calls (number + 1) rest ≡ self.old.parts.items ++ parts_from self.old.opening self.old.calls number (Line.Stop ∷ rest)) }
+        ensures { OnOk result (TakesIn self.old self.new number Line.Stop) }
     {
         let Some(opening) = self.opening else {
             return self
@@ -97,7 +97,8 @@ impl Draft {
 
     /// Ends the phase that began so.
     fn end_phase(&mut self, alloc: Global, number: u32, opening: Opening) -> Result<(), AllocError>
-        ensures parts { OnOk result (self.new.parts.items ≡ self.old.parts.items ++ phase_of opening self.old.calls number ∷ []) }
+        ensures parts { OnOk result (self.new.parts.items
+            ≡ self.old.parts.items ++ phase_of opening self.old.calls number ∷ []) }
         ensures calls { OnOk result (self.new.calls ≡ []) }
         ensures opening { self.new.opening ≡ None }
     {
@@ -114,7 +115,7 @@ impl Draft {
 
     /// The parts of a script that ends in front of the line of this number.
     pub(crate) fn finish(mut self, alloc: Global, number: u32) -> Result<Vec<Part>, AllocError>
-        ensures { IfOk result (λ parts. parts.items ≡ self.parts.items ++ parts_from self.opening self.calls number []) }
+        ensures { IfOk result (λ parts. parts.items ≡ program_with self number []) }
     {
         match self.opening {
             Some(opening) => self.end_phase(alloc, number, opening)?,

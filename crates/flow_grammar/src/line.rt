@@ -73,3 +73,6 @@ fn read_create(words: &[&[u8]]) -> Option<u16>
     }
     number_of_16_bits(number)
 }
+
+#[cfg(test)]
+mod tests;

@@ -26,3 +26,6 @@ pub fn program(alloc: Global, script: &[u8]) -> Result<Program, AllocError>
     let parts = draft.finish(alloc, number)?;
     Ok(Program::new(parts))
 }
+
+#[cfg(test)]
+mod tests;
