@@ -23,5 +23,5 @@ below-number_in limit base n i (first ∷ others) some within same great =
     let digit = get_or (first ∷ others) i 0 in
     sym same ∙ at_drop_more (λ ds. below limit (number_from base n ds)) (first ∷ others) i 0 within
     ∙ elim (nat_lt (digit_value digit) base)
-        as (λ t. below limit (cond t (number_from base (n * base + digit_value digit) (drop (i + 1) (first ∷ others))) None) ≡ None)
-        [ true ↦ below-number_from limit base (n * base + digit_value digit) (drop (i + 1) (first ∷ others)) some great | false ↦ refl ]
+    as (λ t. below limit (cond t (number_from base (n * base + digit_value digit) (drop (i + 1) (first ∷ others))) None) ≡ None)
+    [ true ↦ below-number_from limit base (n * base + digit_value digit) (drop (i + 1) (first ∷ others)) some great | false ↦ refl ]

@@ -5,3 +5,4 @@ pub mod Lines
 pub mod Program
 pub mod Reach
 pub mod Whole
+pub mod Draft

@@ -18,8 +18,8 @@ queue_of (number ∷ words) =
 abbrev pub create_of : List (List ℕ) → Option ℕ
 create_of words = option_and_then queue_of (behind
     (codes "flow" ∷ codes "create" ∷ codes "0" ∷ codes "ingress"
-        ∷ codes "pattern" ∷ codes "eth" ∷ codes "/" ∷ codes "end"
-        ∷ codes "actions" ∷ codes "queue" ∷ codes "index" ∷ []) words)
+    ∷ codes "pattern" ∷ codes "eth" ∷ codes "/" ∷ codes "end"
+    ∷ codes "actions" ∷ codes "queue" ∷ codes "index" ∷ []) words)
 
 abbrev pub create_line : Option ℕ → Line
 create_line None = lines.Bad kinds.Arguments

@@ -8,7 +8,7 @@ use Rattle.flow_grammar.specs.declared.line.Line.{Line}
 use Rattle.flow_grammar.specs.declared.line.Line.TheVariants as lines
 use Rattle.flow_grammar.specs.declared.part.Part.{Part}
 use Rattle.flow_grammar.specs.declared.part.Part.TheVariants as parts
-use Rattle.flow_grammar.specs.declared.part.Opening.{Opening}
+use Rattle.flow_grammar.specs.declared.draft.Opening.{Opening}
 use Rattle.flow_grammar.specs.Line.{line_of}
 use Rattle.flow_grammar.specs.Lines.{lines_of}
 

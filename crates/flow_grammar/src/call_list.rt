@@ -46,7 +46,7 @@ impl CallList {
         self.calls.len()
     }
 
-    pub fn is_empty(&self) -> bool
+    pub(crate) fn is_empty(&self) -> bool
         ensures { IsTrue result ↔ (self.now ≡ []) }
     {
         self.calls.is_empty()

@@ -1,15 +1,23 @@
 //! A program as far as its lines were read.
-ghost use Rattle.std.specs.Prelude.{◌≡◌, ◌+◌, ◌<◌, ◌≤◌, ◌^◌, List, ◌∷◌, ◌++◌, [], IfOk, OnOk, length};
-ghost use Rattle.flow_grammar.specs.declared.line.Line.{Line};
+ghost use Rattle.std.specs.Prelude.{◌≡◌, ◌≤◌, ◌∷◌, ◌++◌, [], IfOk, OnOk, length};
+ghost use Rattle.flow_grammar.specs.Draft.{program_with, TakesIn};
 ghost use Rattle.flow_grammar.specs.Program as spec;
-ghost use Rattle.flow_grammar.specs.Program.{parts_from, calls_at, section_of, phase_of};
+ghost use Rattle.flow_grammar.specs.Program.{calls_at, section_of, phase_of};
 
 use crate::call_list::CallList;
 use crate::line::Line;
-use crate::part::{Opening, Part};
+use crate::op_list::MOST_OPS;
+use crate::part::Part;
 use adapter::{At, BadKind, Call, Op};
 use std::alloc::{AllocError, Global};
 use std::mem;
+
+/// How the phase that is open began.
+#[derive(Clone, Copy)]
+struct Opening {
+    call: Call,
+    count: Option<u32>,
+}
 
 /// The parts that are whole, and the calls of the section or of the phase that is open.
 #[derive(Drop)]
@@ -35,7 +43,7 @@ impl Draft {
 
     /// Adds the line of this number.
     pub(crate) fn add(&mut self, alloc: Global, number: u32, line: Line) -> Result<(), AllocError>
-        ensures { OnOk result ((rest : List Line) → self.new.parts.items ++ parts_from self.new.opening self.new.calls (number + 1) rest ≡ self.old.parts.items ++ parts_from self.old.opening self.old.calls number (line ∷ rest)) }
+        ensures { OnOk result (TakesIn self.old self.new number line) }
     {
         match line {
             Line::Calls(ops) => add_ops(&mut self.calls, number, ops.as_slice()),
@@ -48,10 +56,12 @@ impl Draft {
 
     /// Opens a phase, unless one is open.
     fn start(&mut self, alloc: Global, number: u32, count: Option<u32>) -> Result<(), AllocError>
-        ensures { OnOk result ((rest : List Line) → self.new.parts.items ++ parts_from self.new.opening self.new.calls (number + 1) rest ≡ self.old.parts.items ++ parts_from self.old.opening self.old.calls number (Line.Start count ∷ rest)) }
+        ensures { OnOk result (TakesIn self.old self.new number (Line.Start count)) }
     {
         if self.opening.is_some() {
-            return self.calls.push(call_at(number, 1, Op::Bad(BadKind::AlreadyStarted)));
+            return self
+                .calls
+                .push(call_at(number, 1, Op::Bad(BadKind::AlreadyStarted)));
         }
         self.end_section(alloc)?;
         let call = call_at(number, 1, Op::Start(count));
@@ -61,10 +71,12 @@ impl Draft {
 
     /// Closes the phase that is open.
     fn stop(&mut self, alloc: Global, number: u32) -> Result<(), AllocError>
-        ensures { OnOk result ((rest : List Line) → self.new.parts.items ++ parts_from self.new.opening self.new.calls (number + 1) rest ≡ self.old.parts.items ++ parts_from self.old.opening self.old.calls number (Line.Stop ∷ rest)) }
+        ensures { OnOk result (TakesIn self.old self.new number Line.Stop) }
     {
         let Some(opening) = self.opening else {
-            return self.calls.push(call_at(number, 1, Op::Bad(BadKind::NotStarted)));
+            return self
+                .calls
+                .push(call_at(number, 1, Op::Bad(BadKind::NotStarted)));
         };
         self.end_phase(alloc, number, opening)
     }
@@ -85,7 +97,8 @@ impl Draft {
 
     /// Ends the phase that began so.
     fn end_phase(&mut self, alloc: Global, number: u32, opening: Opening) -> Result<(), AllocError>
-        ensures parts { OnOk result (self.new.parts.items ≡ self.old.parts.items ++ phase_of opening self.old.calls number ∷ []) }
+        ensures parts { OnOk result (self.new.parts.items
+            ≡ self.old.parts.items ++ phase_of opening self.old.calls number ∷ []) }
         ensures calls { OnOk result (self.new.calls ≡ []) }
         ensures opening { self.new.opening ≡ None }
     {
@@ -102,13 +115,17 @@ impl Draft {
 
     /// The parts of a script that ends in front of the line of this number.
     pub(crate) fn finish(mut self, alloc: Global, number: u32) -> Result<Vec<Part>, AllocError>
-        ensures { IfOk result (λ parts. parts.items ≡ self.parts.items ++ parts_from self.opening self.calls number []) }
+        ensures { IfOk result (λ parts. parts.items ≡ program_with self number []) }
     {
         match self.opening {
             Some(opening) => self.end_phase(alloc, number, opening)?,
             None => self.end_section(alloc)?,
         }
-        let Draft { parts, opening: _, calls: _ } = self;
+        let Draft {
+            parts,
+            opening: _,
+            calls: _,
+        } = self;
         Ok(parts)
     }
 }
@@ -124,7 +141,7 @@ fn call_at(line: u32, part: u16, op: Op) -> Call
 
 /// Puts the calls of a line behind the others.
 fn add_ops(calls: &mut CallList, line: u32, ops: &[Op]) -> Result<(), AllocError>
-    requires { length ops.now ≤ 64 }
+    requires { length ops.now ≤ MOST_OPS }
     ensures { OnOk result (calls.new ≡ calls.old ++ calls_at line 1 ops.now) }
 {
     let mut part: u16 = 1;

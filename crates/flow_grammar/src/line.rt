@@ -61,7 +61,10 @@ fn read_create(words: &[&[u8]]) -> Option<u16>
     ensures { result ≡ create_of (map (λ word. word.now) words.now) }
 {
     let index = behind(
-        &[b"flow", b"create", b"0", b"ingress", b"pattern", b"eth", b"/", b"end", b"actions", b"queue", b"index"],
+        &[
+            b"flow", b"create", b"0", b"ingress", b"pattern", b"eth", b"/", b"end", b"actions",
+            b"queue", b"index",
+        ],
         words,
     )?;
     let (number, rest) = index.split_first()?;
@@ -70,3 +73,6 @@ fn read_create(words: &[&[u8]]) -> Option<u16>
     }
     number_of_16_bits(number)
 }
+
+#[cfg(test)]
+mod tests;

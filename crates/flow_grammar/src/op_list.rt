@@ -1,11 +1,14 @@
 //! What one line asks for.
-ghost use Rattle.std.specs.Prelude.{◌≡◌, ◌<◌, ◌≤◌, List, [], ◌∷◌, length, slice_get, IfOk, IsTrue, ◌↔◌};
+ghost use Rattle.std.specs.Prelude.{◌≡◌, ◌<◌, ◌≤◌, List, [], ◌∷◌, length, slice_get, IfOk};
 
 use adapter::Op;
 use std::alloc::{AllocError, Global};
 use std::marker::Model;
 
-/// The ops that one line asks for, in order: at most 64, as many as the ids that a line may list.
+/// The most ops of a line: it asks for one, or for one of each id that it lists, and lists no more ids than these.
+pub(crate) const MOST_OPS: usize = 64;
+
+/// The ops that one line asks for, in order.
 #[derive(Drop)]
 pub struct OpList {
     ops: Vec<Op>,
@@ -14,12 +17,13 @@ pub struct OpList {
 impl Model for OpList {
     ghost use Rattle.std.specs.Prelude.{◌≤◌, List, length};
     ghost use Rattle.adapter.specs.declared.call.Op.{Op};
+    ghost use Rattle.flow_grammar.specs.declared.op_list.TheConstants.{MOST_OPS};
 
     ghost Value = { List Op };
 
     ghost view = { λ list. list.ops.items };
 
-    ghost invariant = { λ list. length list.ops.items ≤ 64 };
+    ghost invariant = { λ list. length list.ops.items ≤ MOST_OPS };
 }
 
 impl OpList {
@@ -34,15 +38,10 @@ impl OpList {
 
     /// How many ops there are.
     pub fn len(&self) -> usize
-        ensures { result ≡ length self.now }
+        ensures value { result ≡ length self.now }
+        ensures few { result ≤ MOST_OPS }
     {
         self.ops.len()
-    }
-
-    pub fn is_empty(&self) -> bool
-        ensures { IsTrue result ↔ (self.now ≡ []) }
-    {
-        self.ops.is_empty()
     }
 
     /// The op at a place, counted from 0.
@@ -56,7 +55,7 @@ impl OpList {
     /// All ops.
     pub fn as_slice(&self) -> &[Op]
         ensures value { result.now ≡ self.now }
-        ensures few { length self.now ≤ 64 }
+        ensures few { length self.now ≤ MOST_OPS }
     {
         self.ops.as_slice()
     }

@@ -5,7 +5,7 @@ ghost use Rattle.flow_grammar.specs.Program.{program_of};
 use crate::draft::Draft;
 use crate::line::read_line;
 use crate::lines::{lines_of, without_carriage_return};
-use crate::part_list::Program;
+use crate::part::Program;
 use std::alloc::{AllocError, Global};
 
 /// Reads a script. A script of 2^32 - 1 lines or more is answered as one for which there is no memory.
@@ -26,3 +26,6 @@ pub fn program(alloc: Global, script: &[u8]) -> Result<Program, AllocError>
     let parts = draft.finish(alloc, number)?;
     Ok(Program::new(parts))
 }
+
+#[cfg(test)]
+mod tests;

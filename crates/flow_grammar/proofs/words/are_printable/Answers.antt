@@ -10,5 +10,5 @@ use Rattle.flow_grammar.proofs.words.are_printable.Goals as goal
 pub returns : goal.returns
 returns c =
     all_from_yields_List (λ word. list_all is_printable word.now) _ _ _ c.all.ensures.ran
-        (YieldsList-from_slice c.args.words.now cc) (λ x b q h. search (rules, tests))
+    (YieldsList-from_slice c.args.words.now cc) (λ x b q h. search (rules, tests))
     ∙ sym (list_all-map (list_all is_printable) (λ word. word.now) c.args.words.now)

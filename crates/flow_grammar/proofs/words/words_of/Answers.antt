@@ -9,10 +9,10 @@ pub returns : goal.returns
 returns c =
     map_from_collect _ c.collect.ensures.ran
     (YieldsList-from_take_while _ _
-        (YieldsList-at c.take_while.ensures.source
-            (YieldsList-from_filter _ _
-                (YieldsList-at c.filter.ensures.source
-                    (YieldsList-from_slice_split _ _ c.args.line.now c.split.ensures.rest c.split.ensures.done
-                        c.split.ensures.closure (λ x b q h. search (rules, tests))))
-                c.filter.ensures.closure (λ x b q h. search (rules, tests))))
-        c.take_while.ensures.closure c.take_while.ensures.done (λ x b q h. search (rules, tests)))
+    (YieldsList-at c.take_while.ensures.source
+    (YieldsList-from_filter _ _
+    (YieldsList-at c.filter.ensures.source
+    (YieldsList-from_slice_split _ _ c.args.line.now c.split.ensures.rest c.split.ensures.done
+    c.split.ensures.closure (λ x b q h. search (rules, tests))))
+    c.filter.ensures.closure (λ x b q h. search (rules, tests))))
+    c.take_while.ensures.closure c.take_while.ensures.done (λ x b q h. search (rules, tests)))
