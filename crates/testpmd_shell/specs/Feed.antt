@@ -29,10 +29,10 @@ rest_in capture = record { frames = map (λ (frame : Frame). frame.bytes) captur
 abbrev pub due : ReaderState → List ℕ → Rest
 due reader bytes = if reader.ended then record { frames = []; stop = stops.End } else rest_in (rest_of reader bytes)
 
--- the next frame's number is one more than the frames that were read, and the buffer holds any frame
+-- the buffer holds any frame, and the next frame's number is one more than those that were read
 pub record IsReady (feed : Feed) : Type 0 where
   pub room : length feed.buffer.items ≡ MAX_FRAME_LEN
-  pub numbered : feed.number ≡ feed.reader.progress.frames + 1
+  pub numbered : feed.reader.ended ≡ false → feed.number ≡ feed.reader.progress.frames + 1
 
 -- A phase took its frames: they are entered behind the history, and if it asked for the stop, that is the capture's end.
 pub record TakesFrames (count : Option ℕ) (old new : Rest) (before after : Seen) (number number' : ℕ) : Type 0 where

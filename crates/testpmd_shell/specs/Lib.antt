@@ -1,4 +1,3 @@
 pub mod Options
 pub mod Serial
-pub mod Due
 pub mod Feed

@@ -1,5 +1,5 @@
 //! The capture's frames, as phases take them.
-ghost use Rattle.std.specs.Prelude.{◌≡◌, ◌<◌, ◌≤◌, ◌+◌, ◌^◌, [], ◌∷◌, ◌++◌, length, OnOk, IfOk, IfErr, IsSome, is_some, false};
+ghost use Rattle.std.specs.Prelude.{◌≡◌, ◌<◌, ◌≤◌, ◌+◌, ◌^◌, [], ◌∷◌, ◌++◌, length, OnOk, OnErr, IfOk, IfErr, IsSome, is_some, false};
 ghost use Rattle.adapter.specs.History.{passed_by};
 ghost use Rattle.testpmd_shell.specs.Serial.{lead};
 ghost use Rattle.capture_files.specs.Reader.{told};
@@ -41,8 +41,9 @@ impl From<AllocError> for Halt {
 /// Enters the frame of that number and those captured bytes, by worker 0.
 fn pass(adapter: &mut Adapter, number: u32, frame: &[u8]) -> Result<(), AllocError>
     requires { length frame.now < 2 ^ 32 }
-    ensures { OnOk result (adapter.new ≡ record adapter.old { history = adapter.old.history
+    ensures ok { OnOk result (adapter.new ≡ record adapter.old { history = adapter.old.history
         ++ passed_by adapter.old.limits adapter.old.history lead (parcel_of number frame.now) ∷ [] }) }
+    ensures err { OnErr result (adapter.new ≡ adapter.old) }
 {
     let parcel = Parcel {
         number,
