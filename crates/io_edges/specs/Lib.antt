@@ -7,3 +7,5 @@ pub mod Plan
 pub mod Reading
 pub mod MemSourceState
 pub mod MemSinkState
+pub mod MemShelfState
+pub mod MemFiles
