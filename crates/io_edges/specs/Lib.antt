@@ -9,3 +9,4 @@ pub mod MemSourceState
 pub mod MemSinkState
 pub mod MemShelfState
 pub mod MemFiles
+pub mod Kept

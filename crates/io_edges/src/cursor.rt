@@ -43,7 +43,7 @@ impl Cursor {
 }
 
 /// Copies `count` bytes from `place` on to the front of `buf`.
-fn copy_from(bytes: &[u8], place: usize, count: usize, buf: &mut [u8])
+pub fn copy_from(bytes: &[u8], place: usize, count: usize, buf: &mut [u8])
     requires within { place + count ≤ length bytes.now }
     requires fits { count ≤ length buf.old }
     ensures { take count buf.new ≡ take count (drop place bytes.now) }
