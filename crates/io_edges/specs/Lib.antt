@@ -8,3 +8,6 @@ pub mod Plan
 pub mod Reading
 pub mod MemSourceState
 pub mod MemSinkState
+pub mod MemShelfState
+pub mod MemFiles
+pub mod Kept
