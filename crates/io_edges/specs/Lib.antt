@@ -2,6 +2,10 @@ pub mod Faults
 pub mod Edge
 pub mod ReadAll
 pub mod ShelfState
+pub mod Front
+pub mod Gather
+pub mod Prints
+pub mod Commas
 pub mod Lent
 pub mod LentLaws
 pub mod Plan
