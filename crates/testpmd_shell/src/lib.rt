@@ -3,3 +3,4 @@
 
 mod ask;
 mod feed;
+mod run;

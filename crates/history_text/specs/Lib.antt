@@ -1,6 +1,0 @@
-pub mod Callers
-pub mod Totals
-pub mod Causes
-pub mod Replies
-pub mod Verdicts
-pub mod Text
