@@ -3,4 +3,6 @@
 
 mod ask;
 mod feed;
+mod options;
 mod run;
+mod words;
