@@ -20,6 +20,9 @@ pub struct Key {
     pub tunnel: Option<Tunnel>,
 }
 
+// A key is kept for each frame of a history.
+const _: () = prove!(size_of::<Key>() <= 240);
+
 impl Model for Key {
     ghost use Rattle.std.specs.Prelude.{List};
     ghost use Rattle.packet_headers.specs.declared.items.LayerAt.{LayerAt};

@@ -10,7 +10,7 @@ mod reading;
 mod stacks;
 
 pub use edits::Edit;
-pub use fields::{Field, Place};
+pub use fields::{Field, Place, fields_of};
 pub use headers::{Eth, Ipv4, Ipv6, Ipv6Address, Tag, Tcp, Udp, Vxlan};
 pub use items::{ItemKind, Layer, LayerAt};
 pub use keys::Key;
@@ -18,11 +18,4 @@ pub use reading::parse;
 pub use stacks::{Network, Stack, Tags, Transport, Tunnel};
 
 #[cfg(test)]
-mod tests {
-    use super::*;
-
-    #[test]
-    fn size(rt: HostRuntime) {
-        assert_eq!(rt; size_of::<Key>(), 240);
-    }
-}
+mod tests;

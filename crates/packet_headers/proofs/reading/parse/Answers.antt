@@ -10,6 +10,6 @@ unfolding layers
 returns-clause-within c =
     let stack = c.read_frame-reading.result.stack in
     let same : stack_layers stack ++ tunnel_layers c.read_tunnel.result ≡ layers c.args.frame.now =
-        ap (λ ls. stack_layers stack ++ ls) c.read_tunnel.ensures ∙ c.read_frame-reading.ensures.layers vxlan_layers in
+    ap (λ ls. stack_layers stack ++ ls) c.read_tunnel.ensures ∙ c.read_frame-reading.ensures.layers vxlan_layers in
     let P : List LayerAt → Type 0 = LieWithin 0 (length c.args.frame.now) in
     subst P (sym same) (LieWithin-layers c.args.frame.now)
