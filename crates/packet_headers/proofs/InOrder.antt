@@ -1,5 +1,5 @@
 -- The headers of a frame lie in it, in rising order and without overlap.
-use Rattle.std.proofs.Common.{◌≡◌, ℕ, ◌+◌, ◌-◌, ◌*◌, ◌/◌, ◌%◌, ◌≤◌, ◌<◌, zero, suc, Bool, true, false, ◌==◌, nat_le, nat_lt, ◌&&◌, ◌||◌, bit_and, if◌then◌else◌, length, drop, List, [], ◌∷◌, refl, subst, arith, length-drop}
+use Rattle.std.proofs.Common.{◌≡◌, ℕ, ◌+◌, ◌*◌, ◌≤◌, zero, suc, Bool, false, ◌==◌, nat_le, nat_lt, ◌||◌, bit_and, length, drop, List, [], ◌∷◌, subst, arith, length-drop}
 use Rattle.std.proofs.lemmas.Bool.{leb-true, and_parts, cond_both}
 use Rattle.packet_headers.specs.declared.items.ItemKind.{ItemKind}
 use Rattle.packet_headers.specs.declared.items.ItemKind.TheVariants as kind

@@ -1,9 +1,8 @@
 -- The layers of a frame: its headers from the first byte on, each with its fields' numbers and its
 -- offset. Each definition takes the bytes that remain, and the type that announces what they are.
-use Rattle.std.specs.Prelude.{ℕ, ◌+◌, ◌*◌, ◌/◌, ◌%◌, ◌<◌, ◌≤◌, zero, suc, Bool, true, false, ◌==◌, nat_lt, nat_le, ◌&&◌, ◌||◌, bit_and, if◌then◌else◌, length, drop, List, [], ◌∷◌}
+use Rattle.std.specs.Prelude.{ℕ, ◌+◌, ◌*◌, ◌/◌, ◌%◌, ◌≤◌, zero, suc, Bool, false, ◌==◌, nat_lt, nat_le, ◌&&◌, ◌||◌, bit_and, if◌then◌else◌, length, drop, List, [], ◌∷◌}
 use Rattle.packet_headers.specs.declared.items.ItemKind.{ItemKind}
 use Rattle.packet_headers.specs.declared.items.ItemKind.TheVariants as kind
-use Rattle.packet_headers.specs.declared.items.Layer.{Layer}
 use Rattle.packet_headers.specs.declared.items.LayerAt.{LayerAt}
 use Rattle.packet_headers.specs.Fields.{fields_of, number_at, numbers_in, padded}
 

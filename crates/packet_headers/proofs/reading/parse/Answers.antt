@@ -1,4 +1,4 @@
-use Rattle.std.proofs.Common.{◌≡◌, ℕ, sym, ap, ◌∙◌, subst, List, ◌++◌, length}
+use Rattle.std.proofs.Common.{◌≡◌, sym, ap, ◌∙◌, subst, List, ◌++◌, length}
 use Rattle.packet_headers.specs.declared.items.LayerAt.{LayerAt}
 use Rattle.packet_headers.specs.Stack.{stack_layers, tunnel_layers}
 use Rattle.packet_headers.specs.Layers.{LieWithin, layers, vxlan_layers}
