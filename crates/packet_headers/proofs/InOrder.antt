@@ -1,11 +1,11 @@
 -- The headers of a frame lie in it, in rising order and without overlap.
-use Rattle.std.proofs.Common.{◌≡◌, ℕ, ◌+◌, ◌*◌, ◌≤◌, zero, suc, Bool, false, ◌==◌, nat_le, nat_lt, ◌||◌, bit_and, length, drop, List, [], ◌∷◌, subst, arith, length-drop}
+use Rattle.std.proofs.Common.{◌≡◌, ℕ, ◌+◌, ◌*◌, ◌≤◌, zero, suc, Bool, false, ◌==◌, nat_le, nat_lt, ◌||◌, length, drop, List, [], ◌∷◌, subst, arith, length-drop}
 use Rattle.std.proofs.lemmas.Bool.{leb-true, and_parts, cond_both}
 use Rattle.packet_headers.specs.declared.items.ItemKind.{ItemKind}
 use Rattle.packet_headers.specs.declared.items.ItemKind.TheVariants as kind
 use Rattle.packet_headers.specs.declared.items.LayerAt.{LayerAt}
 use Rattle.packet_headers.specs.Fields.{number_at}
-use Rattle.packet_headers.specs.Layers.{Payloads, header, header_len, LieWithin, words, version, is_ipv4, is_ipv6, is_first_fragment, tag_follows, transport_layers, network_layers, typed_layers, frame_layers, no_layers, vxlan_layers, layers}
+use Rattle.packet_headers.specs.Layers.{Payloads, header, header_len, LieWithin, words, version, is_ipv4, is_ipv6, is_first_fragment, tag_follows, transport_layers, network_layers, typed_layers, frame_layers, no_layers, is_vxlan, vxlan_layers, layers}
 
 -- layers that begin later begin late enough
 LieWithin-from : (a b end : ℕ) (ls : List LayerAt) → a ≤ b → LieWithin b end ls → LieWithin a end ls
@@ -91,12 +91,11 @@ frame-Fit inside offset rest fit =
 
 vxlan-Fit : AllFit vxlan_layers
 vxlan-Fit offset rest =
-    let P : List LayerAt → Type 0 = Fit offset rest in
-    cond_both (nat_le 8 (length rest)) _ _ P
-    (λ e. cond_both (bit_and (number_at 0 1 rest) 8 == 8) _ _ P
-    (λ _. Fit-header kind.Vxlan offset 8 false rest _ (omega arith) (leb-true 8 (length rest) e)
+    cond_both (is_vxlan rest) _ _ (Fit offset rest)
+    (λ e.
+    let h = and_parts (nat_le 8 (length rest)) _ e in
+    Fit-header kind.Vxlan offset 8 false rest _ (omega arith) (leb-true 8 (length rest) h.0)
     (frame-Fit no_layers (offset + 8) (drop 8 rest) (λ _ _. tt)))
-    (λ _. tt))
     (λ _. tt)
 
 pub LieWithin-layers : (frame : List ℕ) → LieWithin 0 (length frame) (layers frame)

@@ -245,7 +245,8 @@ fn carried<'a>(transport: Transport, payload: Option<Payload<'a>>) -> Upper<'a>
 /// The transport header that a protocol announces.
 fn read_transport(rest: &[u8], offset: usize, protocol: u8) -> Upper<'_>
     requires { offset ≤ 180 }
-    ensures layers { (inside : Payloads) → transport_reading inside result ≡ transport_layers inside protocol offset rest.now }
+    ensures layers { (inside : Payloads) → transport_reading inside result
+        ≡ transport_layers inside protocol offset rest.now }
     ensures payload { IfSome result.payload (λ p. p.offset ≡ offset + 8) }
 {
     if protocol == TCP_PROTOCOL {
@@ -282,7 +283,8 @@ fn is_first_fragment(rest: &[u8]) -> bool
 /// The network header that a type announces, and what it carries.
 fn read_network(rest: &[u8], offset: usize, ether_type: u16) -> Upper<'_>
     requires { offset ≤ 120 }
-    ensures layers { (inside : Payloads) → network_reading inside result ≡ network_layers inside ether_type offset rest.now }
+    ensures layers { (inside : Payloads) → network_reading inside result
+        ≡ network_layers inside ether_type offset rest.now }
     ensures payload { IfSome result.payload (λ p. p.offset ≤ offset + 68) }
 {
     if ether_type == IPV4_TYPE {
@@ -315,7 +317,8 @@ fn read_network(rest: &[u8], offset: usize, ether_type: u16) -> Upper<'_>
 /// Up to two tags, and the network header behind them.
 fn read_typed(rest: &[u8], offset: usize, ether_type: u16) -> Upper<'_>
     requires { offset ≤ 112 }
-    ensures layers { (inside : Payloads) → typed_reading inside result ≡ typed_layers 2 inside ether_type offset rest.now }
+    ensures layers { (inside : Payloads) → typed_reading inside result
+        ≡ typed_layers 2 inside ether_type offset rest.now }
     ensures payload { IfSome result.payload (λ p. p.offset ≤ offset + 76) }
 {
     if !is_tag(rest, ether_type) {
@@ -345,7 +348,8 @@ fn read_typed(rest: &[u8], offset: usize, ether_type: u16) -> Upper<'_>
 fn read_frame(rest: &[u8], offset: usize) -> Reading<'_>
     requires room { ETH_LEN ≤ length rest.now }
     requires offset { offset ≤ 98 }
-    ensures layers { (inside : Payloads) → frame_reading inside result ≡ frame_layers inside offset rest.now }
+    ensures layers { (inside : Payloads) → frame_reading inside result
+        ≡ frame_layers inside offset rest.now }
     ensures payload { IfSome result.payload (λ p. p.offset ≤ offset + 90) }
 {
     let ether_type = u16_at(rest, 12);
