@@ -234,7 +234,9 @@ const ROWS: [Row; 11] = [
 
 #[test]
 fn files_by_single_bytes(rt: HostRuntime) -> Result<(), Fail> {
-    let mut buf = vec![in rt.alloc(); 0; MAX_FRAME_LEN]?;
+    let mut room = vec![in rt.alloc(); 0; MAX_FRAME_LEN]?;
+    let buf = room.as_mut_slice();
+    assert_eq!(rt; buf.len(), MAX_FRAME_LEN);
     for row in &ROWS {
         let bytes = file(rt.alloc(), row.header, row.records)?;
         let bytes = bytes.get(..row.stand).ok_or("too short")?;
@@ -244,7 +246,7 @@ fn files_by_single_bytes(rt: HostRuntime) -> Result<(), Fail> {
             fail_at: row.fail_at,
             faults: 0,
         };
-        let counted = count_frames(&mut source, &mut buf);
+        let counted = count_frames(&mut source, buf);
         assert_eq!(rt; counted, (row.frames, row.last), "{}", row.shows);
     }
     Ok(())
@@ -252,7 +254,9 @@ fn files_by_single_bytes(rt: HostRuntime) -> Result<(), Fail> {
 
 #[test]
 fn first_frame_is_shown(rt: HostRuntime) -> Result<(), Fail> {
-    let mut buf = vec![in rt.alloc(); 0; MAX_FRAME_LEN]?;
+    let mut room = vec![in rt.alloc(); 0; MAX_FRAME_LEN]?;
+    let buf = room.as_mut_slice();
+    assert_eq!(rt; buf.len(), MAX_FRAME_LEN);
     let bytes = file(rt.alloc(), &HEADER, 1)?;
     let mut source = Trickle {
         bytes: &bytes,
@@ -267,7 +271,7 @@ fn first_frame_is_shown(rt: HostRuntime) -> Result<(), Fail> {
         nano: false,
     };
     assert_eq!(rt;
-        reader.next(&mut source, &mut buf),
+        reader.next(&mut source, buf),
         Next::Frame {
             len: 60,
             wire_len: 61,
@@ -276,7 +280,7 @@ fn first_frame_is_shown(rt: HostRuntime) -> Result<(), Fail> {
     );
     assert_eq!(rt; &buf[..60], UDP_FRAME.as_slice());
     assert!(rt; !reader.ended());
-    assert_eq!(rt; reader.next(&mut source, &mut buf), Next::End);
+    assert_eq!(rt; reader.next(&mut source, buf), Next::End);
     assert!(rt; reader.ended());
     Ok(())
 }
