@@ -16,7 +16,7 @@ impl Clone for Parcel {
     ghost is_clone = { λ v w. w ≡ v };
 
     fn clone(&self) -> Result<Parcel, AllocError> {
-        let key = self.key.clone()?;
+        let key = self.key;
         let number = self.number;
         let len = self.len;
         Ok(Parcel { number, key, len })

@@ -1,5 +1,5 @@
 -- A lent part of a shelf is kept by no call at all, and by two calls where each of them keeps it.
-use Rattle.std.proofs.Common.{◌≡◌, ◌≤◌, refl, sym, ◌∙◌, ap, subst, arith}
+use Rattle.std.proofs.Common.{◌≡◌, refl, ◌∙◌, ap, subst, arith}
 use Rattle.io_edges.specs.declared.shelf.Slot.{Slot}
 use Rattle.io_edges.specs.declared.shelf.Slot.TheVariants.{Script, Capture}
 use Rattle.io_edges.specs.ShelfState.{ShelfState, slot_of, with_slot}

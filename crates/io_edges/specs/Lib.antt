@@ -1,5 +1,6 @@
 pub mod Faults
 pub mod Edge
+pub mod ReadAll
 pub mod ShelfState
 pub mod Front
 pub mod Gather
@@ -11,3 +12,6 @@ pub mod Plan
 pub mod Reading
 pub mod MemSourceState
 pub mod MemSinkState
+pub mod MemShelfState
+pub mod MemFiles
+pub mod Kept

@@ -1,5 +1,7 @@
 //! A place in bytes that are read, with the fault that is planned there.
-ghost use Rattle.std.specs.Prelude.{◌≡◌, ℕ, ◌+◌, ◌≤◌, length, take, drop};
+ghost use Rattle.std.specs.Prelude.{◌≡◌, ℕ, ◌+◌, ◌<◌, ◌≤◌, ◌++◌, length, take, drop, Some, MatchResult};
+ghost use Rattle.io_edges.specs.Edge.{Reads};
+ghost use Rattle.io_edges.specs.Faults.{HasCause};
 
 use crate::edge::Failed;
 use crate::plan::{count_allowed, count_one_more};
@@ -19,7 +21,13 @@ impl Cursor {
     pub fn read(&mut self, bytes: &[u8], most: usize, buf: &mut [u8]) -> Result<usize, Failed>
         requires within { self.old.place ≤ length bytes.now }
         requires fits { most ≤ length buf.old }
+        requires some_byte { 0 < most }
         ensures exact { ReadsExactly (reading_of bytes.now self.old) (reading_of bytes.now self.new) most result buf.new }
+        ensures given { MatchResult result
+            (λ n. take self.new.place bytes.now ≡ take self.old.place bytes.now ++ take n buf.new)
+            (λ _. take self.new.place bytes.now ≡ take self.old.place bytes.now) }
+        ensures left { Reads (Some (drop self.old.place bytes.now)) (Some (drop self.new.place bytes.now)) result buf.new }
+        ensures cause { HasCause self.old.faults self.new.faults result }
         ensures within { self.new.place ≤ length bytes.now }
     {
         let left = bytes.len() - self.place;
@@ -35,7 +43,7 @@ impl Cursor {
 }
 
 /// Copies `count` bytes from `place` on to the front of `buf`.
-fn copy_from(bytes: &[u8], place: usize, count: usize, buf: &mut [u8])
+pub fn copy_from(bytes: &[u8], place: usize, count: usize, buf: &mut [u8])
     requires within { place + count ≤ length bytes.now }
     requires fits { count ≤ length buf.old }
     ensures { take count buf.new ≡ take count (drop place bytes.now) }

@@ -130,6 +130,13 @@ impl MemSink {
         self.bytes.as_slice()
     }
 
+    /// Forgets the bytes that were taken. Its memory stays.
+    pub(crate) fn clear(&mut self)
+        ensures { self.new ≡ record self.old { taken = [] } }
+    {
+        self.bytes.clear();
+    }
+
     /// How many bytes of a piece of `count` it takes now. None where it is full or its planned fault comes now.
     fn count_taken(&self, count: usize) -> Option<usize>
         ensures { result ≡ takes_now self.now count }

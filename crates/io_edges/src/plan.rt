@@ -6,6 +6,7 @@ ghost use Rattle.io_edges.specs.Plan.{allowed, left_planned, one_more};
 pub fn count_allowed(fail_at: Option<u64>, place: usize, most: usize) -> Option<usize>
     ensures value { result ≡ allowed fail_at place most }
     ensures bound { IfSome result (λ n. n ≤ most) }
+    ensures some_byte { IfSome result (λ n. n ≡ 0 → most ≡ 0) }
 {
     let Some(at) = fail_at else {
         return Some(most);

@@ -1,2 +1,7 @@
-pub mod Layers
+pub mod Fields
+pub mod Headers
 pub mod Key
+pub mod KeyBack
+pub mod Layers
+pub mod Payload
+pub mod Stack

@@ -1,20 +1,23 @@
-//! The key of a frame.
-ghost use Rattle.std.specs.Prelude.{◌≡◌, ◌<◌, ◌+◌, length};
-ghost use Rattle.packet_headers.specs.Layers.{layers, be16_at};
+ghost use Rattle.std.specs.Prelude.{◌≡◌, ◌+◌, ◌≤◌, ◌<◌, ◌++◌, length, map, slice_get};
+ghost use Rattle.arrayvec.specs.ArrayVec.{array_vec_len};
+ghost use Rattle.packet_headers.specs.Stack.{outer_layers, tag_layers, network_layers, transport_layers};
 
-use std::alloc::AllocError;
+use crate::items::{Layer, LayerAt};
+use crate::stacks::{Network, Stack, Tags, Transport, Tunnel};
+use arrayvec::ArrayVec;
 use std::marker::Model;
 
-#[derive(Clone, Copy)]
-pub struct Eth {
-    dst: u64,
-    src: u64,
-    ether_type: u16,
-}
+/// The most headers of one Ethernet frame: itself, two tags, a network and a transport header.
+const STACK_LAYERS: usize = 5;
 
-#[derive(Drop)]
+/// The most layers of a key: two stacks, and VXLAN between them.
+const MOST_LAYERS: usize = 11;
+
+/// The headers of a frame, each with its offset.
+#[derive(Clone, Copy)]
 pub struct Key {
-    outer: Option<Eth>,
+    pub outer: Option<Stack>,
+    pub tunnel: Option<Tunnel>,
 }
 
 impl Model for Key {
@@ -23,59 +26,104 @@ impl Model for Key {
 
     ghost Value = { List LayerAt };
 
-    ghost use Rattle.packet_headers.specs.Key.{layers_of};
+    ghost use Rattle.packet_headers.specs.Key.{layers_of, key_of};
 
     ghost view = { layers_of };
-}
 
-impl Clone for Key {
-    ghost is_clone = { λ v w. w ≡ v };
+    ghost inverse = { key_of };
 
-    fn clone(&self) -> Result<Key, AllocError> {
-        let outer = self.outer;
-        Ok(Key { outer })
-    }
+    ghost use Rattle.packet_headers.specs.KeyBack.{key_of-layers_of};
+
+    ghost inverse_ok = { λ k h. key_of-layers_of k };
 }
 
 impl Key {
-    /// The number of layers.
+    /// How many layers the key holds: at most 11.
     pub fn len(&self) -> usize
-        ensures { result ≡ length self.now }
+        ensures len { result ≡ length self.now }
+        ensures most { result ≤ MOST_LAYERS }
     {
-        match self.outer {
-            None => 0,
-            Some(_) => 1,
+        self.layers().len()
+    }
+
+    /// The layer at place `i`, from the first byte of the frame on.
+    pub fn layer(&self, i: usize) -> Layer
+        requires { i < length self.now }
+        ensures { slice_get (map (λ l. l.layer) self.now) i ≡ Some result }
+    {
+        self.layers()[i].layer
+    }
+
+    /// Where the layer at place `i` begins in the frame, in bytes.
+    pub fn offset(&self, i: usize) -> usize
+        requires { i < length self.now }
+        ensures { slice_get (map (λ l. l.offset) self.now) i ≡ Some result }
+    {
+        self.layers()[i].offset
+    }
+
+    fn layers(&self) -> ArrayVec<LayerAt, MOST_LAYERS>
+        ensures { result.items ≡ self.now }
+    {
+        let mut list = ArrayVec::new();
+        push_frame(&mut list, &self.outer);
+        if let Some(tunnel) = &self.tunnel {
+            list.push(tunnel.vxlan.layer());
+            push_frame(&mut list, &tunnel.inner);
+        }
+        list
+    }
+}
+
+/// Appends the layers of a frame, if there is one.
+fn push_frame(list: &mut ArrayVec<LayerAt, MOST_LAYERS>, frame: &Option<Stack>)
+    requires { array_vec_len list.old + STACK_LAYERS ≤ MOST_LAYERS }
+    ensures items { list.new.items ≡ list.old.items ++ outer_layers frame.now }
+    ensures len { array_vec_len list.new ≤ array_vec_len list.old + STACK_LAYERS }
+{
+    if let Some(stack) = frame {
+        list.push(stack.eth.layer());
+        push_tags(list, &stack.tags);
+        push_network(list, &stack.network);
+        push_transport(list, &stack.transport);
+    }
+}
+
+fn push_tags(list: &mut ArrayVec<LayerAt, MOST_LAYERS>, tags: &Tags)
+    requires { array_vec_len list.old + 2 ≤ MOST_LAYERS }
+    ensures items { list.new.items ≡ list.old.items ++ tag_layers tags.now }
+    ensures len { array_vec_len list.new ≤ array_vec_len list.old + 2 }
+{
+    match tags {
+        Tags::None => {}
+        Tags::One(tag) => list.push(tag.layer()),
+        Tags::Two(first, second) => {
+            list.push(first.layer());
+            list.push(second.layer());
         }
     }
 }
 
-#[tactic(auto, unfolding(crate::specs::Layers::be16_at))]
-fn be16(frame: &[u8], at: usize) -> u16
-    requires { at + 1 < length frame.now }
-    ensures { result ≡ be16_at frame.now at }
+fn push_network(list: &mut ArrayVec<LayerAt, MOST_LAYERS>, network: &Network)
+    requires { array_vec_len list.old + 1 ≤ MOST_LAYERS }
+    ensures items { list.new.items ≡ list.old.items ++ network_layers network.now }
+    ensures len { array_vec_len list.new ≤ array_vec_len list.old + 1 }
 {
-    frame[at] as u16 * 256 + frame[at + 1] as u16
+    match network {
+        Network::None => {}
+        Network::V4(header) => list.push(header.layer()),
+        Network::V6(header) => list.push(header.layer()),
+    }
 }
 
-/// The layers of a frame.
-pub fn parse(frame: &[u8]) -> Key
-    ensures { result ≡ layers frame.now }
+fn push_transport(list: &mut ArrayVec<LayerAt, MOST_LAYERS>, transport: &Transport)
+    requires { array_vec_len list.old + 1 ≤ MOST_LAYERS }
+    ensures items { list.new.items ≡ list.old.items ++ transport_layers transport.now }
+    ensures len { array_vec_len list.new ≤ array_vec_len list.old + 1 }
 {
-    if frame.len() < 14 {
-        return Key { outer: None };
-    }
-    let dst = 4294967296 * be16(frame, 0) as u64
-        + 65536 * be16(frame, 2) as u64
-        + be16(frame, 4) as u64;
-    let src = 4294967296 * be16(frame, 6) as u64
-        + 65536 * be16(frame, 8) as u64
-        + be16(frame, 10) as u64;
-    let ether_type = be16(frame, 12);
-    Key {
-        outer: Some(Eth {
-            dst,
-            src,
-            ether_type,
-        }),
+    match transport {
+        Transport::None => {}
+        Transport::Tcp(header) => list.push(header.layer()),
+        Transport::Udp(header) => list.push(header.layer()),
     }
 }

@@ -1,6 +1,6 @@
-use Rattle.std.proofs.Common.{sym, ◌∙◌, ap, ◌≡◌, ℕ, min, Some}
+use Rattle.std.proofs.Common.{◌≡◌, ℕ, ◌+◌, min, List, ◌++◌, length, take, drop, refl, sym, ◌∙◌, ap, subst, arith, take-add, add-zero, Some}
 use Rattle.io_edges.specs.Plan.{allowed}
-use Rattle.io_edges.proofs.Readings.{allowed-reading, reading_of-add}
+use Rattle.io_edges.proofs.Readings.{allowed-reading, reading_of-add, drop-add, nothing_left}
 use Rattle.io_edges.proofs.cursor.Cursor.read.Goals as goal
 
 pub returns-clause-exact : goal.returns-clause-exact
@@ -11,3 +11,19 @@ returns-clause-exact c = (
   c.copy_from.ensures,
   reading_of-add c.args.self.now c.args.bytes.now c.in-Some.count,
 )
+
+pub returns-clause-given : goal.returns-clause-given
+returns-clause-given c = take-add c.args.self.now.place c.in-Some.count c.args.bytes.now
+    ∙ ap (λ (x : List ℕ). take c.args.self.now.place c.args.bytes.now ++ x) (sym c.copy_from.ensures)
+
+pub returns-clause-left : goal.returns-clause-left
+returns-clause-left c = record {
+  bytes = (
+    drop-add c.args.bytes.now (take c.in-Some.count c.copy_from.new.buf) c.args.self.now.place c.in-Some.count c.copy_from.ensures,
+    λ none _. ap (λ (n : ℕ). drop (c.args.self.now.place + n) c.args.bytes.now) none
+        ∙ rw add-zero (nothing_left c.args.bytes.now c.args.self.now.place c.args.most c.requires.some_byte
+        (sym c.min.ensures ∙ c.in-Some.ensures.some_byte none)),
+  );
+  bound = omega (arith, c.in-Some.ensures.bound);
+  told = refl;
+}

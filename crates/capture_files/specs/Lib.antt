@@ -1,0 +1,6 @@
+pub mod Header
+pub mod Record
+pub mod Capture
+pub mod Fill
+pub mod Parts
+pub mod Reader

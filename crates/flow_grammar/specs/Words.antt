@@ -1,0 +1,44 @@
+-- The words of a line.
+use Rattle.std.specs.Prelude.{ℕ, ◌==◌, ◌||◌, ◌&&◌, Bool, true, false, not, nat_le, List, [], ◌∷◌, filter, codes, bytes_eq, Option, None, Some, if◌then◌else◌}
+use Rattle.std.specs.List.{slice_split, take_while, list_all}
+
+-- a space or a tab
+abbrev pub is_blank : ℕ → Bool
+is_blank byte = byte == 32 || byte == 9
+
+-- what stands between two blanks is a word, unless it is empty
+abbrev pub is_word : List ℕ → Bool
+is_word [] = false
+is_word (byte ∷ bytes) = true
+
+-- a word that begins with `#` begins a comment
+abbrev pub begins_comment : List ℕ → Bool
+begins_comment [] = false
+begins_comment (byte ∷ bytes) = byte == 35
+
+-- the words of a line, up to its comment
+abbrev pub words_of : List ℕ → List (List ℕ)
+words_of line = take_while (λ word. not (begins_comment word)) (filter is_word (slice_split is_blank line))
+
+-- printable ASCII but for the space
+abbrev pub is_printable : ℕ → Bool
+is_printable byte = nat_le 33 byte && nat_le byte 126
+
+abbrev pub are_printable : List (List ℕ) → Bool
+are_printable words = list_all (list_all is_printable) words
+
+-- the words behind these leading ones, where a list begins with them
+abbrev pub behind : List (List ℕ) → List (List ℕ) → Option (List (List ℕ))
+behind [] words = Some words
+behind (leading ∷ others) [] = None
+behind (leading ∷ others) (word ∷ words) = if bytes_eq word leading then behind others words else None
+
+-- no word is left
+abbrev pub is_done : Option (List (List ℕ)) → Bool
+is_done None = false
+is_done (Some []) = true
+is_done (Some (word ∷ words)) = false
+
+-- a list is just these words
+abbrev pub are_words : List (List ℕ) → List (List ℕ) → Bool
+are_words form words = is_done (behind form words)

@@ -1,0 +1,62 @@
+//! What one line asks for.
+ghost use Rattle.std.specs.Prelude.{◌≡◌, ◌<◌, ◌≤◌, List, [], ◌∷◌, length, slice_get, IfOk};
+
+use adapter::Op;
+use std::alloc::{AllocError, Global};
+use std::marker::Model;
+
+/// The most ops of a line: it asks for one, or for one of each id that it lists, and lists no more ids than these.
+pub(crate) const MOST_OPS: usize = 64;
+
+/// The ops that one line asks for, in order.
+#[derive(Drop)]
+pub struct OpList {
+    ops: Vec<Op>,
+}
+
+impl Model for OpList {
+    ghost use Rattle.std.specs.Prelude.{◌≤◌, List, length};
+    ghost use Rattle.adapter.specs.declared.call.Op.{Op};
+    ghost use Rattle.flow_grammar.specs.declared.op_list.TheConstants.{MOST_OPS};
+
+    ghost Value = { List Op };
+
+    ghost view = { λ list. list.ops.items };
+
+    ghost invariant = { λ list. length list.ops.items ≤ MOST_OPS };
+}
+
+impl OpList {
+    /// The list of one op.
+    pub(crate) fn single(alloc: Global, op: Op) -> Result<OpList, AllocError>
+        ensures { IfOk result (λ list. list ≡ op ∷ []) }
+    {
+        let mut ops = Vec::new(alloc);
+        ops.push(op)?;
+        Ok(OpList { ops })
+    }
+
+    /// How many ops there are.
+    pub fn len(&self) -> usize
+        ensures value { result ≡ length self.now }
+        ensures few { result ≤ MOST_OPS }
+    {
+        self.ops.len()
+    }
+
+    /// The op at a place, counted from 0.
+    pub fn get(&self, i: usize) -> &Op
+        requires { i < length self.now }
+        ensures { slice_get self.now i ≡ Some result.now }
+    {
+        &self.ops[i]
+    }
+
+    /// All ops.
+    pub fn as_slice(&self) -> &[Op]
+        ensures value { result.now ≡ self.now }
+        ensures few { length self.now ≤ MOST_OPS }
+    {
+        self.ops.as_slice()
+    }
+}

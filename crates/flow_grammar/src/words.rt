@@ -1,0 +1,71 @@
+//! The words of a line.
+ghost use Rattle.std.specs.Prelude.{◌≡◌, IfOk, map};
+ghost use Rattle.std.specs.Option.{option_map};
+ghost use Rattle.std.specs.List.{list_all};
+ghost use Rattle.flow_grammar.specs.Words as spec;
+
+use std::alloc::{AllocError, Global};
+
+/// The words between spaces and tabs, up to the first that begins with `#`.
+pub(crate) fn words_of(alloc: Global, line: &[u8]) -> Result<Vec<&[u8]>, AllocError>
+    ensures { IfOk result (λ words. map (λ word. word.now) words.items ≡ spec.words_of line.now) }
+{
+    line.split(|byte| is_blank(*byte))
+        .filter(|word| !word.is_empty())
+        .take_while(|word| !begins_comment(word))
+        .collect(alloc)
+}
+
+fn is_blank(byte: u8) -> bool
+    ensures { result ≡ spec.is_blank byte }
+{
+    byte == b' ' || byte == b'\t'
+}
+
+fn begins_comment(word: &[u8]) -> bool
+    ensures { result ≡ spec.begins_comment word.now }
+{
+    match word.first() {
+        Some(byte) => *byte == b'#',
+        None => false,
+    }
+}
+
+/// Whether all words are of printable ASCII.
+pub(crate) fn are_printable(words: &[&[u8]]) -> bool
+    ensures { result ≡ spec.are_printable (map (λ word. word.now) words.now) }
+{
+    words.iter().all(|word| is_printable(word))
+}
+
+fn is_printable(word: &[u8]) -> bool
+    ensures { result ≡ list_all spec.is_printable word.now }
+{
+    word.iter().all(|byte| 33 <= *byte && *byte <= 126)
+}
+
+/// The words behind these leading ones, where a list begins with them.
+pub(crate) fn behind<'w, 'a>(leading: &[&[u8]], words: &'w [&'a [u8]]) -> Option<&'w [&'a [u8]]>
+    ensures { option_map (λ rest. map (λ word. word.now) rest.now) result ≡ spec.behind (map (λ word. word.now) leading.now) (map (λ word. word.now) words.entry.now) }
+{
+    let Some((first, others)) = leading.split_first() else {
+        return Some(words);
+    };
+    let Some((word, rest)) = words.split_first() else {
+        return None;
+    };
+    if *word != *first {
+        return None;
+    }
+    behind(others, rest)
+}
+
+/// Whether a list is just these words.
+pub(crate) fn are_words(form: &[&[u8]], words: &[&[u8]]) -> bool
+    ensures { result ≡ spec.are_words (map (λ word. word.now) form.now) (map (λ word. word.now) words.now) }
+{
+    match behind(form, words) {
+        Some(rest) => rest.is_empty(),
+        None => false,
+    }
+}

@@ -1,0 +1,5 @@
+// The flow shell over a software port.
+#![tactic(auto)]
+
+mod ask;
+mod feed;
