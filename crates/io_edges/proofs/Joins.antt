@@ -1,16 +1,17 @@
 -- Printing over a page: one piece behind another, and what a page sends to its sink.
-use Rattle.std.proofs.Common.{◌≡◌, ℕ, ◌+◌, ◌-◌, ◌^◌, ◌≤◌, min, Bool, true, false, List, [], ◌∷◌, ◌++◌, length, map, Option, sym, ap, ◌∙◌, subst, append_assoc, append-nil, arith, length-append}
+use Rattle.std.proofs.Common.{zero, suc, Some, add-one, take, refl, ◌≡◌, ℕ, ◌+◌, ◌-◌, ◌^◌, ◌≤◌, min, Bool, true, false, List, [], ◌∷◌, ◌++◌, length, map, Option, sym, ap, ◌∙◌, subst, append_assoc, append-nil, arith, length-append}
 use Rattle.std.proofs.Math.Seq.{take-append-add}
 use Rattle.std.proofs.lemmas.List.{take-append-le}
-use Rattle.std.proofs.KnownBytes.{Appends-trans}
+use Rattle.std.proofs.KnownBytes.{Appends-trans, Appends-nil}
 use Rattle.std.specs.Option.{is_some}
 use Rattle.std.specs.Io.KnownBytes.{Appends}
-use Rattle.std.specs.List.{flat_map}
+use Rattle.std.specs.List.{flat_map, slice_get}
 use Rattle.io_edges.specs.Commas.{with_commas}
 use Rattle.io_edges.specs.Faults.{Rose}
 use Rattle.io_edges.specs.Front.{TakesFront}
-use Rattle.io_edges.specs.Gather.{Gather}
-use Rattle.io_edges.specs.Prints.{Gathered, Prints}
+use Rattle.io_edges.specs.declared.page.Page.{Page}
+use Rattle.io_edges.specs.Gather.{Gather, gather_of, IsFresh}
+use Rattle.io_edges.specs.Prints.{start_of, Gathered, Prints}
 
 -- a front of a text is a front of each longer text
 pub TakesFront-longer : (a b : Option (List ℕ)) (xs ys : List ℕ) (sent : ℕ) → TakesFront a b xs sent → TakesFront a b (xs ++ ys) sent
@@ -104,3 +105,32 @@ pub with_commas-first : {A : Type 0} (text : A → List ℕ) (x : A) (xs : List 
     → text x ++ flat_map (λ n. 44 ∷ text n) xs ≡ with_commas (map text (x ∷ xs))
 with_commas-first text x [] = append-nil (text x)
 with_commas-first text x (y ∷ ys) = ap (λ l. text x ++ (44 ∷ l)) (with_commas-first text y ys)
+
+-- at an empty page a text begins
+pub Gathered-start : {S : Type 0} (taken : S → Option (List ℕ)) (faults : S → ℕ) (sink : S) (page : Page) → IsFresh page
+    → Gathered (start_of taken faults sink) (gather_of taken faults sink page) []
+Gathered-start taken faults sink page fresh = record {
+  whole = λ e. record {
+    written = [];
+    splits = rw fresh.empty refl;
+    took = Appends-nil (taken sink);
+    calm = refl;
+    counted = fresh.unsent;
+  };
+  part = λ e. let unfailed = fresh.unfailed in cc;
+  later = omega arith;
+  told = refl;
+}
+
+flat_map-next : {A : Type 0} (text : A → List ℕ) (xs : List A) (i : ℕ) (x : A) → slice_get xs i ≡ Some x
+    → flat_map text (take i xs) ++ text x ≡ flat_map text (take (suc i) xs)
+flat_map-next text [] i x is = cc
+flat_map-next text (y ∷ ys) zero x is = let same : x ≡ y = cc in ap text same ∙ sym (append-nil (text y))
+flat_map-next text (y ∷ ys) (suc i) x is =
+    append_assoc (text y) (flat_map text (take i ys)) (text x) ∙ ap (λ l. text y ++ l) (flat_map-next text ys i x is)
+
+-- one more item of a list
+pub Prints-next : {A : Type 0} {a b d : Gather} (text : A → List ℕ) (xs : List A) (i : ℕ) (x : A) → slice_get xs i ≡ Some x
+    → Prints a b (flat_map text (take i xs)) → Prints b d (text x) → Prints a d (flat_map text (take (i + 1) xs))
+Prints-next text xs i x is before next =
+    Prints-as (flat_map-next text xs i x is ∙ ap (λ n. flat_map text (take n xs)) (sym (add-one i))) (Prints-then before next)

@@ -1,0 +1,6 @@
+pub mod Callers
+pub mod Totals
+pub mod Causes
+pub mod Replies
+pub mod Verdicts
+pub mod Text

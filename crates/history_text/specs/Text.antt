@@ -1,0 +1,29 @@
+-- The transcript of a history: a line for each entry, and a line of totals.
+use Rattle.std.specs.Prelude.{ℕ, List, [], ◌++◌, codes, decimal}
+use Rattle.std.specs.List.{flat_map}
+use Rattle.adapter.specs.declared.limits.Limits.{Limits}
+use Rattle.adapter.specs.Entry.{Entry, Asked, Passed}
+use Rattle.adapter.specs.Totals.{totals_of}
+use Rattle.history_text.specs.declared.ending.Ending.{Ending}
+use Rattle.history_text.specs.declared.ending.Ending.TheVariants as endings
+use Rattle.history_text.specs.Callers.{caller_text}
+use Rattle.history_text.specs.Totals.{totals_text}
+use Rattle.history_text.specs.Replies.{reply_text}
+use Rattle.history_text.specs.Verdicts.{verdict_text}
+
+abbrev pub entry_text : Limits → Entry → List ℕ
+entry_text limits (Asked caller call reply) = caller_text caller ++ (codes " " ++ (decimal call.at.line
+    ++ (codes "." ++ (decimal call.at.part ++ (codes ": " ++ (reply_text limits reply ++ codes "\n"))))))
+entry_text limits (Passed caller parcel verdict) = caller_text caller ++ (codes " #" ++ (decimal parcel.number
+    ++ (codes ": " ++ (verdict_text verdict ++ codes "\n"))))
+
+-- a capture that was read as far as it was asked for has no line
+abbrev pub ending_text : Ending → List ℕ
+ending_text endings.Whole = []
+
+-- what stands behind the last entry
+abbrev pub end_text : Limits → List Entry → Ending → List ℕ
+end_text limits history ending = codes "total " ++ (totals_text limits (totals_of history) ++ (codes "\n" ++ ending_text ending))
+
+abbrev pub text_of : Limits → List Entry → Ending → List ℕ
+text_of limits history ending = flat_map (entry_text limits) history ++ end_text limits history ending
