@@ -42,7 +42,7 @@ AreAsks (call ∷ calls) (Passed caller parcel verdict ∷ es) = ⊥
 
 -- the calls of each caller in a phase: those of the shell
 abbrev pub phase_calls : List Call → ℕ → List Call
-phase_calls shell who = if who == 0 then shell else []
+phase_calls shell who = if 0 == who then shell else []
 
 -- Between the opening and the closing of a phase each caller asks just its calls, in order. Each frame that the phase
 -- takes passes once, by one of the workers 0 to workers - 1, and the numbers of each worker rise.

@@ -1,1 +1,4 @@
 pub mod Prefixes
+pub mod LegalSerial
+pub mod WholeSerial
+pub mod Statuses

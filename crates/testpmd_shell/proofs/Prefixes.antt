@@ -1,5 +1,5 @@
 -- What `strip_prefix` gives, as the value of a word under a key.
-use Rattle.std.proofs.Common.{◌≡◌, ℕ, Bool, true, false, cond, List, drop, length, Option, None, Some, refl, sym, ap, ◌∙◌, Bor, nat_eq, option_copied}
+use Rattle.std.proofs.Common.{◌≡◌, ℕ, Bool, true, false, cond, List, drop, length, Option, None, Some, refl, sym, ap, ◌∙◌, Bor, nat_eq, option_copied, ◌++◌, subst}
 use Rattle.std.specs.Option.{MatchOption}
 use Rattle.std.specs.List.{starts_with}
 use Rattle.std.specs.Str.Pattern.{FindsTextPrefix, StripsPrefix}
@@ -12,7 +12,7 @@ pub strip_prefix_value : (key word : List ℕ) (r : Option (Bor (List ℕ)))
 strip_prefix_value key word None h =
     ap (λ b. cond b (Some (drop (length key) word)) None) (starts_text false key word h)
 strip_prefix_value key word (Some x) h =
-    let n = h.0 in
-    let long : n ≡ length key = h.1.0 in
+    let long : h.0 ≡ length key = h.1.0 in
+    let split : word ≡ key ++ drop (length key) word = subst (λ k. word ≡ key ++ drop k word) long h.1.1 in
     ap Some (h.2 ∙ ap (λ k. drop k word) long)
-    ∙ ap (λ b. cond b (Some (drop (length key) word)) None) (starts_text true key word (n, h.1, h.1.2))
+    ∙ ap (λ b. cond b (Some (drop (length key) word)) None) (starts_text true key word (length key, (refl, split, h.1.2), h.1.2))

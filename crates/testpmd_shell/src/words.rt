@@ -1,5 +1,5 @@
 //! The program's words.
-ghost use Rattle.std.specs.Prelude.{◌≡◌, ◌≤◌, ◌<◌, ◌^◌, min, map, option_copied};
+ghost use Rattle.std.specs.Prelude.{◌≡◌, ◌≤◌, ◌<◌, ◌^◌, min, map, option_copied, IfSome};
 ghost use Rattle.std.specs.Option.{option_map};
 ghost use Rattle.std.specs.List.{list_all};
 ghost use Rattle.testpmd_shell.specs.Options.{value_of, values_of, at_most_one, is_known, is_digit, digits_value, is_number, queues_of, options_of, given_of};
@@ -84,12 +84,27 @@ fn number(text: &[u8]) -> bool
     if text.len() > 6 {
         return false;
     }
-    text.iter().all(|b| *b >= b'0' && *b <= b'9')
+    all_digits(text)
+}
+
+fn all_digits(text: &[u8]) -> bool
+    ensures { result ≡ list_all is_digit text.now }
+{
+    for byte in text {
+        if *byte < b'0' {
+            return false;
+        }
+        if *byte > b'9' {
+            return false;
+        }
+    }
+    true
 }
 
 /// The number of Rx queues.
 fn queues(text: Option<&str>) -> Option<u8>
-    ensures { result ≡ queues_of (option_copied text) }
+    ensures number { result ≡ queues_of (option_copied text.entry) }
+    ensures range { IfSome result (λ rxq. (1 ≤ rxq) × (rxq ≤ 16)) }
 {
     let Some(text) = text else {
         return Some(1);
@@ -109,7 +124,8 @@ fn queues(text: Option<&str>) -> Option<u8>
 
 /// The options that the words give, if they give any.
 pub(crate) fn options<'a>(words: &[&'a str]) -> Option<Options<'a>>
-    ensures { option_map given_of result ≡ options_of (map (λ w. w.now) words.now) }
+    ensures options { option_map given_of result ≡ options_of (map (λ w. w.now) words.now) }
+    ensures queues { IfSome result (λ options. (1 ≤ options.rxq) × (options.rxq ≤ 16)) }
 {
     if !all_known(words) {
         return None;

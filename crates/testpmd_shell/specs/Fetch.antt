@@ -1,0 +1,26 @@
+-- What opening and reading the files says where it stops.
+use Rattle.std.specs.Prelude.{◌≡◌, ℕ, ◌<◌, List, length, Option, IfSome}
+use Rattle.io_edges.specs.ShelfState.{ShelfState}
+use Rattle.testpmd_shell.specs.declared.TheConstants.{MAX_SCRIPT}
+use Rattle.testpmd_shell.specs.declared.fetch.Stopped.{Stopped}
+use Rattle.testpmd_shell.specs.declared.fetch.Stopped.TheVariants as stopped
+
+-- why the script wasn't read, by the bytes of its name and the counts of read faults
+abbrev pub IsScriptStop : Option (List ℕ) → ℕ → ℕ → Stopped → Type 0
+IsScriptStop content before now stopped.ReadFault = before < now
+IsScriptStop content before now stopped.BadCapture = ⊥
+IsScriptStop content before now stopped.TooLarge = (now ≡ before) × IfSome content (λ bytes. MAX_SCRIPT < length bytes)
+IsScriptStop content before now stopped.NoMemory = now ≡ before
+
+-- why the capture wasn't opened
+abbrev pub IsOpeningStop : ℕ → ℕ → Stopped → Type 0
+IsOpeningStop before now stopped.ReadFault = before < now
+IsOpeningStop before now stopped.BadCapture = ⊥
+IsOpeningStop before now stopped.TooLarge = ⊥
+IsOpeningStop before now stopped.NoMemory = now ≡ before
+
+-- what the script's opening and reading leave alone
+pub record OthersThanScript (old new : ShelfState) : Type 0 where
+  pub contents : new.contents ≡ old.contents
+  pub allows : new.allows_read ≡ old.allows_read
+  pub capture : new.capture ≡ old.capture
