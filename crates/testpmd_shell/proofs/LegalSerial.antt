@@ -1,5 +1,5 @@
 -- The serial history is legal.
-use Rattle.std.proofs.Common.{◌≡◌, ℕ, ◌+◌, List, [], ◌∷◌, ◌++◌, length, refl, sym, append_assoc, append-nil, subst}
+use Rattle.std.proofs.Common.{ℕ, ◌+◌, List, [], ◌∷◌, ◌++◌, length, refl, sym, append_assoc, append-nil, subst}
 use Rattle.adapter.specs.declared.limits.Limits.{Limits}
 use Rattle.adapter.specs.declared.call.Call.{Call}
 use Rattle.adapter.specs.Entry.{Entry}
@@ -30,18 +30,18 @@ IsLegalBehind-part limits h number frames (Phase opening count calls closing) =
     let asked = asks_of limits h (opening ∷ calls) in
     let passed = passes_of limits (h ++ asked) number (first count frames) in
     IsLegalBehind-append limits h asked (passed ++ asks_of limits ((h ++ asked) ++ passed) (closing ∷ []))
-        (IsLegalBehind-asks limits h (opening ∷ calls))
-        (IsLegalBehind-append limits (h ++ asked) passed (asks_of limits ((h ++ asked) ++ passed) (closing ∷ []))
-            (IsLegalBehind-passes limits (h ++ asked) number (first count frames))
-            (IsLegalBehind-asks limits ((h ++ asked) ++ passed) (closing ∷ [])))
+    (IsLegalBehind-asks limits h (opening ∷ calls))
+    (IsLegalBehind-append limits (h ++ asked) passed (asks_of limits ((h ++ asked) ++ passed) (closing ∷ []))
+    (IsLegalBehind-passes limits (h ++ asked) number (first count frames))
+    (IsLegalBehind-asks limits ((h ++ asked) ++ passed) (closing ∷ [])))
 
 IsLegalBehind-serial : (limits : Limits) (h : List Entry) (number : ℕ) (frames : List (List ℕ)) (parts : List Part) → IsLegalBehind limits h (serial_from limits h number frames parts)
 IsLegalBehind-serial limits h number frames [] = tt
 IsLegalBehind-serial limits h number frames (part ∷ parts) =
     IsLegalBehind-append limits h (part_of limits h number frames part)
-        (serial_from limits (h ++ part_of limits h number frames part) (number + length (taken_by part frames)) (left_by part frames) parts)
-        (IsLegalBehind-part limits h number frames part)
-        (IsLegalBehind-serial limits (h ++ part_of limits h number frames part) (number + length (taken_by part frames)) (left_by part frames) parts)
+    (serial_from limits (h ++ part_of limits h number frames part) (number + length (taken_by part frames)) (left_by part frames) parts)
+    (IsLegalBehind-part limits h number frames part)
+    (IsLegalBehind-serial limits (h ++ part_of limits h number frames part) (number + length (taken_by part frames)) (left_by part frames) parts)
 
 -- each serial history is legal
 pub IsLegal-serial : (limits : Limits) (parts : List Part) (frames : List (List ℕ)) → IsLegal limits (serial limits parts frames)

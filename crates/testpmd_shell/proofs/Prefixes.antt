@@ -1,7 +1,6 @@
 -- What `strip_prefix` gives, as the value of a word under a key.
-use Rattle.std.proofs.Common.{◌≡◌, ℕ, Bool, true, false, cond, List, drop, length, Option, None, Some, refl, sym, ap, ◌∙◌, Bor, nat_eq, option_copied, ◌++◌, subst}
+use Rattle.std.proofs.Common.{◌≡◌, ℕ, true, false, cond, List, drop, length, Option, None, Some, refl, ap, ◌∙◌, Bor, option_copied, ◌++◌, subst}
 use Rattle.std.specs.Option.{MatchOption}
-use Rattle.std.specs.List.{starts_with}
 use Rattle.std.specs.Str.Pattern.{FindsTextPrefix, StripsPrefix}
 use Rattle.std.proofs.lemmas.Str.Pattern.{starts_text}
 use Rattle.testpmd_shell.specs.Options.{value_of}

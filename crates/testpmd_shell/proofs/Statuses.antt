@@ -1,8 +1,8 @@
 -- What the statuses say, out of what the calls below say.
-use Rattle.std.proofs.Common.{◌≡◌, ℕ, ◌<◌, List, Option, None, Some, IfSome, refl, sym, ap, ◌∙◌, subst, arith, inl, inr}
+use Rattle.std.proofs.Common.{◌≡◌, ℕ, List, Option, None, Some, IfSome, refl, sym, subst, arith, inl, inr}
 use Rattle.std.specs.Prelude.{◌⊎◌}
 use Rattle.std.specs.Io.KnownBytes.{Appends}
-use Rattle.io_edges.specs.ShelfState.{ShelfState, read_faults}
+use Rattle.io_edges.specs.ShelfState.{ShelfState}
 use Rattle.io_edges.specs.Front.{TakesFront}
 use Rattle.adapter.specs.Entry.{Entry}
 use Rattle.adapter.specs.Seen.{Seen}
@@ -26,20 +26,27 @@ IsOwed given files a = IfSome files (λ f. (a.history ≡ history_of given f) ×
 pub IsHeadline-printed : (given : Given) (files : Option Files) (a : Seen) (old new : Option (List ℕ)) → a.limits ≡ limits_of given → IsOwed given files a
     → Appends old new (text_of a.limits a.history endings.Whole) → IfSome files (λ f. (due_status f ≡ status.Done) × IsHeadline given f old new)
 IsHeadline-printed given None a old new limits owed printed = tt
-IsHeadline-printed given (Some f) a old new limits owed printed = (owed.1, record {
+IsHeadline-printed given (Some f) a old new limits owed printed = (
+  owed.1,
+  record {
     legal = IsLegal-serial (limits_of given) (program_of f.script) f.capture.frames;
     whole = IsWhole-serial (limits_of given) (program_of f.script) f.capture.frames;
     printed = subst (λ (h : List Entry). Appends old new (text_of (limits_of given) h endings.Whole)) owed.0
-        (subst (λ (l : Limits). Appends old new (text_of l a.history endings.Whole)) limits printed) })
+        (subst (λ (l : Limits). Appends old new (text_of l a.history endings.Whole)) limits printed);
+  },
+)
 
 -- a front of it was printed
 pub TakesFront-printed : (given : Given) (files : Option Files) (a : Seen) (old new : Option (List ℕ)) (sent : ℕ) → a.limits ≡ limits_of given → IsOwed given files a
     → TakesFront old new (text_of a.limits a.history endings.Whole) sent
     → IfSome files (λ f. (due_status f ≡ status.Done) × (sent : ℕ) × TakesFront old new (text_of (limits_of given) (history_of given f) endings.Whole) sent)
 TakesFront-printed given None a old new sent limits owed printed = tt
-TakesFront-printed given (Some f) a old new sent limits owed printed = (owed.1, sent,
-    subst (λ (h : List Entry). TakesFront old new (text_of (limits_of given) h endings.Whole) sent) owed.0
-    (subst (λ (l : Limits). TakesFront old new (text_of l a.history endings.Whole) sent) limits printed))
+TakesFront-printed given (Some f) a old new sent limits owed printed = (
+  owed.1,
+  sent,
+  subst (λ (h : List Entry). TakesFront old new (text_of (limits_of given) h endings.Whole) sent) owed.0
+      (subst (λ (l : Limits). TakesFront old new (text_of l a.history endings.Whole) sent) limits printed),
+)
 
 IfSome-weaker : (files : Option Files) (P Q : Files → Type 0) → ((f : Files) → P f → Q f) → IfSome files P → IfSome files Q
 IfSome-weaker None P Q weaker p = tt

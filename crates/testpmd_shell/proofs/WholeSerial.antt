@@ -1,19 +1,18 @@
 -- The serial history is whole.
-use Rattle.std.proofs.Common.{◌≡◌, ℕ, ◌+◌, ◌<◌, ◌≤◌, Bool, true, false, cond, List, [], ◌∷◌, ◌++◌, length, refl, sym, ap, ◌∙◌, append_assoc, append-nil, add-zero, subst, eqb, arith, slice_index}
+use Rattle.std.proofs.Common.{◌≡◌, ℕ, ◌+◌, ◌<◌, ◌≤◌, Bool, true, false, cond, List, [], ◌∷◌, ◌++◌, length, refl, sym, ap, ◌∙◌, append_assoc, append-nil, add-zero, subst, eqb, arith}
 use Rattle.std.specs.List.{All, range_with_len}
-use Rattle.std.specs.List.Sorted.{IsPermutation, IsStrictlyIncreasing}
-use Rattle.std.proofs.lemmas.List.Elements.{All-append, All-cons, All-nil}
+use Rattle.std.specs.List.Sorted.{IsStrictlyIncreasing}
+use Rattle.std.proofs.lemmas.List.Elements.{All-cons, All-nil}
 use Rattle.std.proofs.lemmas.List.FromFn.{length-range_with_len, get_or-range_with_len}
 use Rattle.adapter.specs.declared.limits.Limits.{Limits}
 use Rattle.adapter.specs.declared.call.Call.{Call}
-use Rattle.adapter.specs.declared.parcel.Parcel.{Parcel}
 use Rattle.adapter.specs.Entry.{Entry, Asked, Passed}
 use Rattle.adapter.specs.History.{asked_by, passed_by}
 use Rattle.flow_grammar.specs.declared.part.Part.{Part}
 use Rattle.flow_grammar.specs.declared.part.Part.TheVariants.{Section, Phase}
-use Rattle.flow_grammar.specs.Reach.{first, behind_first, taken_by, left_by, parcel_of, parcels_from}
+use Rattle.flow_grammar.specs.Reach.{first, behind_first, parcel_of, parcels_from}
 use Rattle.flow_grammar.specs.Whole.{calls_by, parcels_of, numbers_by, passers_of, AreAsks, phase_calls, IsMiddle, IsWhole}
-use Rattle.testpmd_shell.specs.Serial.{asks_of, passes_of, part_of, serial_from, serial, shell, lead}
+use Rattle.testpmd_shell.specs.Serial.{asks_of, passes_of, serial_from, serial, shell, lead}
 
 AreAsks-asks : (limits : Limits) (h : List Entry) (calls : List Call) → AreAsks calls (asks_of limits h calls)
 AreAsks-asks limits h [] = tt
@@ -113,11 +112,12 @@ IsMiddle-serial limits h h' number calls taken =
     let asked = asks_of limits h calls in
     let passed = passes_of limits h' number taken in
     record {
-        calls = λ who. calls_by-append who asked passed ∙ ap (λ l. calls_by who asked ++ l) (calls_by-passes who limits h' number taken) ∙ append-nil (calls_by who asked) ∙ calls_by-asks who limits h calls;
-        frames = record { moves = []; below = tt; is = parcels_of-append asked passed ∙ ap (λ l. l ++ parcels_of passed) (parcels_of-asks limits h calls) ∙ parcels_of-passes limits h' number taken };
-        passers = subst (All IsWorker0) (sym (passers_of-append asked passed ∙ ap (λ l. l ++ passers_of passed) (passers_of-asks limits h calls))) (All-passers limits h' number taken);
-        rising = λ who. subst IsStrictlyIncreasing (sym (numbers_by-append who asked passed ∙ ap (λ l. l ++ numbers_by who passed) (numbers_by-asks who limits h calls) ∙ numbers_by-passes who limits h' number taken))
-            (IsStrictlyIncreasing-range (eqb 9 who) number (length taken)) }
+      calls = λ who. calls_by-append who asked passed ∙ ap (λ l. calls_by who asked ++ l) (calls_by-passes who limits h' number taken) ∙ append-nil (calls_by who asked) ∙ calls_by-asks who limits h calls;
+      frames = record { moves = []; below = tt; is = parcels_of-append asked passed ∙ ap (λ l. l ++ parcels_of passed) (parcels_of-asks limits h calls) ∙ parcels_of-passes limits h' number taken };
+      passers = subst (All IsWorker0) (sym (passers_of-append asked passed ∙ ap (λ l. l ++ passers_of passed) (passers_of-asks limits h calls))) (All-passers limits h' number taken);
+      rising = λ who. subst IsStrictlyIncreasing (sym (numbers_by-append who asked passed ∙ ap (λ l. l ++ numbers_by who passed) (numbers_by-asks who limits h calls) ∙ numbers_by-passes who limits h' number taken))
+          (IsStrictlyIncreasing-range (eqb 9 who) number (length taken));
+    }
 
 pieces : (o : Entry) (asks ps cs rest : List Entry) → ((o ∷ asks) ++ (ps ++ cs)) ++ rest ≡ (o ∷ []) ++ ((asks ++ ps) ++ (cs ++ rest))
 pieces o asks ps cs rest = ap (λ l. o ∷ l) (append_assoc asks (ps ++ cs) rest ∙ ap (λ l. asks ++ l) (append_assoc ps cs rest) ∙ sym (append_assoc asks ps (cs ++ rest)))
@@ -126,9 +126,13 @@ IsWhole-serial_from : (limits : Limits) (h : List Entry) (number : ℕ) (frames 
 IsWhole-serial_from limits h number frames [] = refl
 IsWhole-serial_from limits h number frames (Section calls ∷ parts) =
     let asked = asks_of limits h calls in
-    let rest = serial_from limits (h ++ asked) (number + 0) frames parts in
-    (asked, rest, refl, AreAsks-asks limits h calls,
-        subst (λ n. IsWhole 1 parts n frames rest) (add-zero number) (IsWhole-serial_from limits (h ++ asked) (number + 0) frames parts))
+    let rest = serial_from limits (h ++ asked) (number + 0) frames parts in (
+      asked,
+      rest,
+      refl,
+      AreAsks-asks limits h calls,
+      subst (λ n. IsWhole 1 parts n frames rest) (add-zero number) (IsWhole-serial_from limits (h ++ asked) (number + 0) frames parts),
+    )
 IsWhole-serial_from limits h number frames (Phase opening count calls closing ∷ parts) =
     let taken = first count frames in
     let opened = asked_by limits h shell opening in
@@ -136,10 +140,17 @@ IsWhole-serial_from limits h number frames (Phase opening count calls closing �
     let passed = passes_of limits (h ++ opened ∷ asked) number taken in
     let closed = asks_of limits ((h ++ opened ∷ asked) ++ passed) (closing ∷ []) in
     let added = (opened ∷ asked) ++ (passed ++ closed) in
-    let rest = serial_from limits (h ++ added) (number + length taken) (behind_first count frames) parts in
-    (opened ∷ [], asked ++ passed, closed, rest, pieces opened asked passed closed rest,
-        (refl, refl, tt), IsMiddle-serial limits (h ++ opened ∷ []) (h ++ opened ∷ asked) number calls taken, (refl, refl, tt),
-        IsWhole-serial_from limits (h ++ added) (number + length taken) (behind_first count frames) parts)
+    let rest = serial_from limits (h ++ added) (number + length taken) (behind_first count frames) parts in (
+      opened ∷ [],
+      asked ++ passed,
+      closed,
+      rest,
+      pieces opened asked passed closed rest,
+      (refl, refl, tt),
+      IsMiddle-serial limits (h ++ opened ∷ []) (h ++ opened ∷ asked) number calls taken,
+      (refl, refl, tt),
+      IsWhole-serial_from limits (h ++ added) (number + length taken) (behind_first count frames) parts,
+    )
 
 -- each serial history is whole, with one worker
 pub IsWhole-serial : (limits : Limits) (parts : List Part) (frames : List (List ℕ)) → IsWhole 1 parts 1 frames (serial limits parts frames)

@@ -1,5 +1,5 @@
 -- What a session owes: the history that its files make, and the status where no call fails.
-use Rattle.std.specs.Prelude.{ℕ, nat_lt, Bool, true, false, not, ◌&&◌, List, [], length, Option, None, Some, option_and_then, if◌then◌else◌}
+use Rattle.std.specs.Prelude.{ℕ, nat_lt, Bool, true, false, not, ◌&&◌, List, [], length, Option, None, Some, if◌then◌else◌}
 use Rattle.std.specs.Option.{option_map}
 use Rattle.capture_files.specs.declared.stop.Stop.{Stop}
 use Rattle.capture_files.specs.declared.stop.Stop.TheVariants as stops

@@ -1,13 +1,11 @@
 -- The capture as phases take it: its reader, the number of the next frame, and a buffer for one frame.
-use Rattle.std.specs.Prelude.{◌≡◌, ℕ, ◌+◌, ◌-◌, ◌≤◌, ◌==◌, Bool, true, false, cond, List, [], ◌∷◌, ◌++◌, length, map, Option, None, Some, is_some, IsSome, if◌then◌else◌}
+use Rattle.std.specs.Prelude.{◌≡◌, ℕ, ◌+◌, ◌-◌, ◌≤◌, ◌==◌, Bool, true, false, List, [], ◌∷◌, ◌++◌, length, map, Option, None, Some, if◌then◌else◌}
 use Rattle.capture_files.specs.declared.stop.Stop.{Stop}
 use Rattle.capture_files.specs.declared.stop.Stop.TheVariants as stops
 use Rattle.capture_files.specs.declared.record.TheConstants.{MAX_FRAME_LEN, MAX_FRAMES}
-use Rattle.capture_files.specs.Capture.{Capture, stopped}
+use Rattle.capture_files.specs.Capture.{Capture}
 use Rattle.capture_files.specs.Record.{Frame}
-use Rattle.capture_files.specs.Reader.{ReaderState, rest_of, told}
-use Rattle.adapter.specs.declared.limits.Limits.{Limits}
-use Rattle.adapter.specs.Entry.{Entry}
+use Rattle.capture_files.specs.Reader.{ReaderState, rest_of}
 use Rattle.adapter.specs.Seen.{Seen}
 use Rattle.adapter.specs.History.{passed_by}
 use Rattle.io_edges.specs.Faults.{Rose}
@@ -88,7 +86,7 @@ pub record CountsOne (took : Bool) (old new : ReaderState) : Type 0 where
 -- What is to go of a phase comes to what was to go at its start.
 pub record ToGo (count count' : Option ℕ) (old new : Rest) (before after : Seen) (number number' : ℕ) : Type 0 where
   pub entered : record after { history = after.history ++ passes_of after.limits after.history number' (first count' new.frames) }
-    ≡ record before { history = before.history ++ passes_of before.limits before.history number (first count old.frames) }
+      ≡ record before { history = before.history ++ passes_of before.limits before.history number (first count old.frames) }
   pub left : behind_first count' new.frames ≡ behind_first count old.frames
   pub counted : number' + length (first count' new.frames) ≡ number + length (first count old.frames)
   pub stop : new.stop ≡ old.stop

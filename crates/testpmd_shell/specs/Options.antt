@@ -1,5 +1,5 @@
 -- The options that the program's words give.
-use Rattle.std.specs.Prelude.{ℕ, ◌+◌, ◌*◌, ◌-◌, nat_le, nat_eq, Bool, true, false, ◌&&◌, ◌||◌, List, [], ◌∷◌, length, drop, fold, codes, Option, None, Some, option_and_then, option_copied, is_some, if◌then◌else◌}
+use Rattle.std.specs.Prelude.{ℕ, ◌+◌, ◌*◌, ◌-◌, nat_le, nat_eq, Bool, ◌&&◌, ◌||◌, List, [], ◌∷◌, length, drop, fold, codes, Option, None, Some, option_and_then, option_copied, is_some, if◌then◌else◌}
 use Rattle.std.specs.List.{starts_with, filter_map, list_all}
 use Rattle.testpmd_shell.specs.declared.options.Options.{Options}
 
@@ -69,8 +69,8 @@ options_of words = if list_all is_known words then
     option_and_then (λ (script : List ℕ).
     option_and_then (λ (capture : Option (List ℕ)).
     option_and_then (λ (rxq : Option (List ℕ)). options_by script capture (queues_of rxq))
-        (at_most_one (values_of rxq_key words)))
-        (at_most_one (values_of capture_key words)))
-        script_or_none)
-        (at_most_one (values_of script_key words))
+    (at_most_one (values_of rxq_key words)))
+    (at_most_one (values_of capture_key words)))
+    script_or_none)
+    (at_most_one (values_of script_key words))
     else None

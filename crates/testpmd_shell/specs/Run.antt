@@ -1,5 +1,5 @@
 -- What the parts of a program do, one after the other.
-use Rattle.std.specs.Prelude.{◌≡◌, ℕ, ◌+◌, Bool, true, false, List, [], ◌∷◌, ◌++◌, length, Option, None, Some, IsSome, ⊤}
+use Rattle.std.specs.Prelude.{◌≡◌, ℕ, ◌+◌, true, List, [], ◌++◌, length, Option, None, Some, IsSome, ⊤}
 use Rattle.capture_files.specs.declared.stop.Stop.TheVariants as stops
 use Rattle.capture_files.specs.Reader.{told}
 use Rattle.adapter.specs.Seen.{Seen}
@@ -45,6 +45,6 @@ pub record RunsParts (parts : List Part) (old : Rest) (before after : Seen) (num
 -- What is to go of the parts comes to what was to go at the start; the stop wasn't asked for, or is the end.
 pub record PartsToGo (parts parts' : List Part) (old new : Rest) (before after : Seen) (number number' : ℕ) : Type 0 where
   pub entered : record after { history = after.history ++ serial_from after.limits after.history number' new.frames parts' }
-    ≡ record before { history = before.history ++ serial_from before.limits before.history number old.frames parts }
+      ≡ record before { history = before.history ++ serial_from before.limits before.history number old.frames parts }
   pub stop : new.stop ≡ old.stop
   pub asked : (old.stop ≡ stops.End → ⊥) → program_asks_stop parts' new.frames ≡ program_asks_stop parts old.frames

@@ -1,5 +1,5 @@
 -- What a session says: each status with its cause, and what was written.
-use Rattle.std.specs.Prelude.{◌≡◌, ℕ, ◌-◌, ◌^◌, ◌<◌, ◌≤◌, Bool, true, false, List, [], Option, None, Some, IfSome, IsTrue, ⊤, ◌⊎◌}
+use Rattle.std.specs.Prelude.{◌≡◌, ℕ, ◌-◌, ◌^◌, ◌<◌, false, List, Option, None, Some, IfSome, IsTrue, ⊤, ◌⊎◌}
 use Rattle.std.specs.Io.KnownBytes.{Appends}
 use Rattle.io_edges.specs.declared.shelf.Slot.TheVariants as slots
 use Rattle.io_edges.specs.ShelfState.{ShelfState, read_faults}

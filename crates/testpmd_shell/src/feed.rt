@@ -41,8 +41,10 @@ impl From<AllocError> for Halt {
 /// Enters the frame of that number and those captured bytes, by worker 0.
 fn pass(adapter: &mut Adapter, number: u32, frame: &[u8]) -> Result<(), AllocError>
     requires { length frame.now < 2 ^ 32 }
-    ensures ok { OnOk result (adapter.new ≡ record adapter.old { history = adapter.old.history
-        ++ passed_by adapter.old.limits adapter.old.history lead (parcel_of number frame.now) ∷ [] }) }
+    ensures ok { OnOk result (adapter.new ≡ record adapter.old {
+      history = adapter.old.history
+          ++ passed_by adapter.old.limits adapter.old.history lead (parcel_of number frame.now) ∷ [];
+    }) }
     ensures err { OnErr result (adapter.new ≡ adapter.old) }
 {
     let parcel = Parcel {

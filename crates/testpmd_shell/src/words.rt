@@ -7,7 +7,9 @@ ghost use Rattle.testpmd_shell.specs.Options.{value_of, values_of, at_most_one, 
 use crate::options::Options;
 
 const SCRIPT: &str = "--cmdline-file=";
+
 const CAPTURE: &str = "--rx-pcap=";
+
 const QUEUES: &str = "--rxq=";
 
 /// One more than the most Rx queues.

@@ -3,7 +3,7 @@ use Rattle.std.specs.Option.{option_map}
 use Rattle.capture_files.specs.Capture.{capture}
 use Rattle.capture_files.specs.Reader.{ReaderState, opening, told}
 use Rattle.io_edges.specs.ShelfState.{SlotState}
-use Rattle.testpmd_shell.specs.Feed.{Rest, due, rest_in}
+use Rattle.testpmd_shell.specs.Feed.{due, rest_in}
 use Rattle.testpmd_shell.specs.Due.{capture_of}
 use Rattle.testpmd_shell.proofs.fetch.open_capture.Goals as goal
 
@@ -15,10 +15,13 @@ opened_frames (Some bytes) left reader fresh same =
     subst (λ (l : Option (List ℕ)). IsSome l × (due reader (told l) ≡ rest_in (capture bytes))) (sym same) (refl, ap (λ (r : ReaderState). due r bytes) fresh)
 
 pub returns-clause-opened : goal.returns-clause-opened
-returns-clause-opened g c = (record {
+returns-clause-opened g c = (
+  record {
     room = omega (arith, c.in_ok-buffer.ensures.len, c.in_ok-buffer.buffer.ok.0);
-    numbered = λ _. ap (λ (r : ReaderState). r.progress.frames + 1) (sym c.new.ensures) },
-    ap (λ (s : SlotState). s.opened) c.in-Ok.ensures.opens)
+    numbered = λ _. ap (λ (r : ReaderState). r.progress.frames + 1) (sym c.new.ensures);
+  },
+  ap (λ (s : SlotState). s.opened) c.in-Ok.ensures.opens,
+)
 
 pub returns-clause-frames : goal.returns-clause-frames
 returns-clause-frames g c =
