@@ -1,5 +1,5 @@
 -- The headers of a file and of a record are told by their own bytes, whatever comes behind.
-use Rattle.std.proofs.Common.{◌≡◌, ℕ, ◌+◌, ◌≤◌, ◌<◌, List, ◌++◌, length, drop, Option, None, Some, Result, Ok, Err, refl, sym, ap, ◌∙◌, arith, eqb, ltb, cond, length-append, length-drop}
+use Rattle.std.proofs.Common.{◌≡◌, ℕ, ◌+◌, ◌≤◌, ◌<◌, List, ◌++◌, length, drop, Option, None, Some, Ok, Err, refl, sym, ap, ◌∙◌, arith, eqb, cond, length-append, length-drop}
 use Rattle.std.proofs.lemmas.Bool.{cond-true, cond-false, le-ltb, lt-ltb}
 use lib.Seq.{drop-append-le, drop_at}
 use Rattle.byteorder.specs.Numbers.{little_from-append}

@@ -5,7 +5,7 @@ use Rattle.std.proofs.KnownBytes.{Consumes-trans}
 use Rattle.capture_files.specs.declared.parts.Halt.{Halt}
 use Rattle.capture_files.specs.declared.parts.Halt.TheVariants.{Stopped, Faulted}
 use Rattle.capture_files.specs.Record.{Frame}
-use Rattle.capture_files.specs.Capture.{Capture, stopped, with_frame}
+use Rattle.capture_files.specs.Capture.{Capture, with_frame}
 use Rattle.capture_files.specs.Parts.{Gave, HaltTells, IsUnfinished}
 
 -- what holds of the bytes that were given, whatever is behind them, holds of the bytes that were left

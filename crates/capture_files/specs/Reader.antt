@@ -1,5 +1,5 @@
 -- A reader of captures, and what its answers say.
-use Rattle.std.specs.Prelude.{◌≡◌, ℕ, ◌+◌, ◌≤◌, Bool, true, false, List, [], ◌∷◌, ◌++◌, length, take, Option, Some, None, is_some, IsSome, unwrap_or}
+use Rattle.std.specs.Prelude.{◌≡◌, ℕ, ◌+◌, ◌≤◌, Bool, true, false, List, [], ◌++◌, take, Option, None, unwrap_or}
 use Rattle.io_edges.specs.Faults.{Rose}
 use Rattle.capture_files.specs.declared.header.Format.{Format}
 use Rattle.capture_files.specs.declared.record.Progress.{Progress}
@@ -11,7 +11,7 @@ use Rattle.capture_files.specs.declared.stop.Stop.TheVariants as stops
 use Rattle.capture_files.specs.declared.parts.Halt.{Halt}
 use Rattle.capture_files.specs.declared.parts.Halt.TheVariants.{Stopped, Faulted}
 use Rattle.capture_files.specs.declared.record.TheConstants.{MAX_FRAME_LEN, MAX_FRAMES}
-use Rattle.capture_files.specs.Record.{Frame, behind}
+use Rattle.capture_files.specs.Record.{Frame}
 use Rattle.capture_files.specs.Parts.{rest_from, Gave, IsUnfinished}
 use Rattle.capture_files.specs.Capture.{Capture, stopped, with_frame, start}
 

@@ -1,4 +1,4 @@
-use Rattle.std.proofs.Common.{length, take, ◌-◌, ◌≡◌, ℕ, ◌≤◌, is_some}
+use Rattle.std.proofs.Common.{length, take, ◌-◌, ◌≡◌, ◌≤◌, is_some}
 use Rattle.std.specs.Io.KnownBytes.{Consumes}
 use Rattle.capture_files.proofs.fill.fill.Given as goal
 

@@ -1,5 +1,5 @@
 -- What the header's bytes tell, they tell of the file.
-use Rattle.std.proofs.Common.{◌≡◌, ℕ, ◌<◌, length, take, arith, length-take-le, sym, ◌∙◌}
+use Rattle.std.proofs.Common.{◌<◌, length, take, arith, length-take-le, sym}
 use Rattle.std.proofs.KnownBytes.{Consumes-whole}
 use Rattle.capture_files.proofs.Headers.{capture_from-records, capture_from-stop, capture_from-cut}
 use Rattle.capture_files.proofs.Records.{unfinished}

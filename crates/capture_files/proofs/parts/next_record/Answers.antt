@@ -1,5 +1,5 @@
 -- A record's header, and what the bytes behind it make of the record.
-use Rattle.std.proofs.Common.{◌≡◌, ℕ, ◌<◌, ◌≤◌, ◌++◌, length, take, drop, arith, length-take-le, subst, sym, ap, ◌∙◌, append_assoc}
+use Rattle.std.proofs.Common.{◌≡◌, ◌<◌, ◌≤◌, ◌++◌, length, take, drop, arith, length-take-le, sym, ap, ◌∙◌, append_assoc}
 use Rattle.std.proofs.KnownBytes.{Consumes-whole, Consumes-trans}
 use lib.Seq.{take-append_seam}
 use Rattle.capture_files.specs.declared.record.TheConstants.{MAX_FRAME_LEN}

@@ -1,5 +1,5 @@
 -- Bytes that are too few for a record's header.
-use Rattle.std.proofs.Common.{◌≡◌, ℕ, ◌<◌, length, take, arith, length-take-le, subst, sym, ap, ◌∙◌}
+use Rattle.std.proofs.Common.{◌≡◌, ◌<◌, length, take, arith, length-take-le, sym, ap, ◌∙◌}
 use Rattle.std.proofs.KnownBytes.{Consumes-whole}
 use Rattle.capture_files.specs.Capture.{stopped}
 use Rattle.capture_files.proofs.Records.{records_of-none, records_of-short, records_of-unfinished}

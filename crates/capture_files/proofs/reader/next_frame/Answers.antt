@@ -1,7 +1,6 @@
 -- A record behind a file header that may have been read before.
-use Rattle.std.proofs.Common.{ℕ, List, ◌++◌, subst, sym, ◌≡◌, take}
 use Rattle.std.proofs.lemmas.Result.{err_from_is_err_and}
-use Rattle.capture_files.specs.Record.{behind, frame_of}
+use Rattle.capture_files.specs.Record.{behind}
 use Rattle.capture_files.specs.Capture.{records_of}
 use Rattle.capture_files.specs.Parts.{rest_from}
 use Rattle.capture_files.proofs.Moves.{HaltTells-behind, Gave-behind}
