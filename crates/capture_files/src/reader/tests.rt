@@ -285,6 +285,6 @@ fn first_frame_is_shown(rt: HostRuntime) -> Result<(), Fail> {
             stamp
         }
     );
-    assert_eq!(rt; &buf[..60], UDP_FRAME.as_slice());
+    assert!(rt; buf.starts_with(&UDP_FRAME));
     Ok(())
 }

@@ -1,4 +1,4 @@
-use Rattle.std.proofs.Common.{◌≡◌, ℕ, ◌+◌, ◌-◌, ◌≤◌, false, length, is_some, IsSome}
+use Rattle.std.proofs.Common.{◌≡◌, ◌+◌, ◌-◌, ◌≤◌, false, length, is_some, IsSome}
 use Rattle.capture_files.specs.declared.record.TheConstants.{MAX_FRAMES}
 use Rattle.capture_files.specs.Capture.{capture}
 use Rattle.capture_files.specs.Reader.{rest_of, told}

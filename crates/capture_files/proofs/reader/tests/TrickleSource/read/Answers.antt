@@ -1,5 +1,5 @@
 -- One byte was given: the first of those that were left.
-use Rattle.std.proofs.Common.{◌≡◌, ℕ, suc, ◌+◌, ◌<◌, List, [], ◌∷◌, ◌++◌, length, get_or, take, drop, set, refl, sym, ap, ◌∙◌, arith, rules, drop-cons, add-one}
+use Rattle.std.proofs.Common.{◌≡◌, ℕ, ◌+◌, ◌<◌, List, [], ◌∷◌, ◌++◌, length, get_or, take, drop, set, refl, arith, drop-cons, add-one}
 use Rattle.std.proofs.Math.ListN.{length-set}
 use Rattle.capture_files.proofs.reader.tests.TrickleSource.read.Goals as goal
 
