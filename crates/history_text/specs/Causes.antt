@@ -7,7 +7,6 @@ use Rattle.history_text.specs.declared.cause.ErrorType.{ErrorType}
 use Rattle.history_text.specs.declared.cause.ErrorType.TheVariants as types
 use Rattle.history_text.specs.declared.cause.Place.{Place}
 use Rattle.history_text.specs.declared.cause.Place.TheVariants as places
-use Rattle.history_text.specs.declared.cause.CauseRow.{CauseRow}
 
 -- an error type's number, and its name behind `RTE_FLOW_ERROR_TYPE_`
 pub record TypeRow : Type 0 where

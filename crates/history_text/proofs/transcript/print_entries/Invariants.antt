@@ -1,5 +1,5 @@
 -- The lines of the entries so far are printed.
-use Rattle.std.proofs.Common.{◌≡◌, take}
+use Rattle.std.proofs.Common.{take}
 use Rattle.std.specs.List.{flat_map}
 use Rattle.io_edges.specs.Gather.{gather_of}
 use Rattle.io_edges.specs.Prints.{Prints}
