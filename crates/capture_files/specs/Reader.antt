@@ -12,7 +12,7 @@ use Rattle.capture_files.specs.declared.parts.Halt.{Halt}
 use Rattle.capture_files.specs.declared.parts.Halt.TheVariants.{Stopped, Faulted}
 use Rattle.capture_files.specs.declared.record.TheConstants.{MAX_FRAME_LEN, MAX_FRAMES}
 use Rattle.capture_files.specs.Record.{Frame, behind}
-use Rattle.capture_files.specs.Parts.{rest_from}
+use Rattle.capture_files.specs.Parts.{rest_from, Gave, IsUnfinished}
 use Rattle.capture_files.specs.Capture.{Capture, stopped, with_frame, start}
 
 -- A reader: the form of the file, once its header was read, how far it has come, and whether it has ended.
@@ -58,6 +58,16 @@ TellsRest before after answers.End buf = before ≡ stopped stops.End
 TellsRest before after (answers.Bad place kind) buf = before ≡ stopped (stops.Bad place kind)
 TellsRest before after (answers.Large place) buf = before ≡ stopped (stops.Large place)
 TellsRest before after answers.ReadFault buf = Unit {0}
+
+-- What an answer says of the bytes that the source gave. At a frame they are its record, whatever comes behind. At a read
+-- fault no frame stands in them, and nothing is wrong with them but that they end.
+abbrev pub TellsGiven : (List ℕ → Capture) → (List ℕ → Capture) → Option (List ℕ) → Option (List ℕ) → Next → List ℕ → Type 0
+TellsGiven before after old new (answers.Frame len wire_len stamp) buf =
+    Gave old new (λ given. (rest : List ℕ) → before (given ++ rest) ≡ with_frame (shown_frame len wire_len stamp buf) (after rest))
+TellsGiven before after old new answers.End buf = Unit {0}
+TellsGiven before after old new (answers.Bad place kind) buf = Unit {0}
+TellsGiven before after old new (answers.Large place) buf = Unit {0}
+TellsGiven before after old new answers.ReadFault buf = Gave old new (λ given. IsUnfinished (before given))
 
 -- the count of the source's faults rose at a read fault, and stays elsewhere
 abbrev pub NextCause : ℕ → ℕ → Next → Type 0

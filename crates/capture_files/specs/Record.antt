@@ -3,7 +3,7 @@ use Rattle.std.specs.Prelude.{◌≡◌, ℕ, ◌+◌, ◌*◌, ◌≤◌, ◌==
 use Rattle.capture_files.specs.declared.header.Format.{Format}
 use Rattle.capture_files.specs.declared.record.RecordHeader.{RecordHeader}
 use Rattle.capture_files.specs.declared.record.Progress.{Progress}
-use Rattle.capture_files.specs.declared.record.TheConstants.{MAX_FRAME_LEN, MAX_FRAMES, MAX_CAPTURED}
+use Rattle.capture_files.specs.declared.record.TheConstants.{MAX_FRAMES, MAX_CAPTURED}
 use Rattle.capture_files.specs.declared.stop.Stop.{Stop}
 use Rattle.capture_files.specs.declared.stop.Stop.TheVariants.{End, Bad, Large}
 use Rattle.capture_files.specs.declared.stop.CaptureKind.TheVariants.{RecordCut, RecordLength}
@@ -35,11 +35,12 @@ frame_of header captured = record {
   wire_len = header.wire_len;
 }
 
--- a record that is too long is bad, and one that passes a limit makes the capture too large
+-- A record of more than 262,144 captured bytes is bad. One behind 65,536 frames, or with which the captured bytes pass
+-- 16,777,216 together, makes the capture too large.
 abbrev pub refusal_of : Progress → ℕ → Option Stop
 refusal_of progress captured_len =
-    if nat_lt MAX_FRAME_LEN captured_len then Some (Bad progress.place RecordLength)
-    else if progress.frames == MAX_FRAMES || nat_lt MAX_CAPTURED (progress.captured + captured_len) then Some (Large progress.place)
+    if nat_lt 262144 captured_len then Some (Bad progress.place RecordLength)
+    else if progress.frames == 65536 || nat_lt 16777216 (progress.captured + captured_len) then Some (Large progress.place)
     else None
 
 -- the frame of a record with that header and the bytes behind it, where it isn't refused or cut

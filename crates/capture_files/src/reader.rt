@@ -72,7 +72,7 @@ impl Model for CaptureReader {
 }
 
 impl CaptureReader {
-    ghost use Rattle.capture_files.specs.Reader.{opening, rest_of, told, is_frame, TellsRest, NextCause, Counts};
+    ghost use Rattle.capture_files.specs.Reader.{opening, rest_of, told, is_frame, TellsRest, TellsGiven, NextCause, Counts};
 
     /// A reader that has read nothing.
     pub fn new() -> CaptureReader
@@ -101,6 +101,9 @@ impl CaptureReader {
         ensures rest { IsSome (S.left source.old)
             → TellsRest (rest_of self.old (told (S.left source.old))) (rest_of self.new (told (S.left source.new))) result buf.new }
         ensures told { is_some (S.left source.new) ≡ is_some (S.left source.old) }
+
+        // of the bytes that the source gave, told or not
+        ensures given { TellsGiven (rest_of self.old) (rest_of self.new) (S.left source.old) (S.left source.new) result buf.new }
 
         ensures ended { self.new.ended ≡ not (is_frame result) }
         ensures counts { Counts self.old self.new result }
@@ -145,3 +148,6 @@ fn next_frame<S: Source>(
     *progress = progress.behind(header.captured_len);
     Ok(header)
 }
+
+#[cfg(test)]
+mod tests;

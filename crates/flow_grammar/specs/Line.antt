@@ -1,6 +1,5 @@
 -- What a line says.
 use Rattle.std.specs.Prelude.{ℕ, ◌^◌, List, [], ◌∷◌, codes, Option, None, Some, option_and_then, if◌then◌else◌}
-use Rattle.adapter.specs.declared.call.RuleSpec.{RuleSpec}
 use Rattle.adapter.specs.declared.call.Op.TheVariants as ops
 use Rattle.adapter.specs.declared.call.BadKind.TheVariants as kinds
 use Rattle.flow_grammar.specs.declared.line.Line.{Line}
@@ -21,6 +20,7 @@ create_of words = option_and_then queue_of (behind
     ∷ codes "pattern" ∷ codes "eth" ∷ codes "/" ∷ codes "end"
     ∷ codes "actions" ∷ codes "queue" ∷ codes "index" ∷ []) words)
 
+-- a line of that form asks for one rule
 abbrev pub create_line : Option ℕ → Line
 create_line None = lines.Bad kinds.Arguments
 create_line (Some queue) = lines.Calls (ops.Create (record { queue = queue }) ∷ [])

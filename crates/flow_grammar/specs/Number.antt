@@ -1,5 +1,5 @@
 -- The numbers of the grammar: `0`, decimal digits without a leading zero, or `0x` and hexadecimal digits of either case.
-use Rattle.std.specs.Prelude.{ℕ, ◌+◌, ◌*◌, nat_eq, nat_lt, List, [], ◌∷◌, length, drop, codes, Option, None, Some, if◌then◌else◌}
+use Rattle.std.specs.Prelude.{ℕ, ◌+◌, ◌*◌, ◌==◌, nat_eq, nat_lt, List, [], ◌∷◌, drop, codes, Option, None, Some, if◌then◌else◌}
 use Rattle.std.specs.Char.{digit_value}
 use Rattle.std.specs.List.{starts_with}
 
@@ -14,8 +14,9 @@ abbrev pub number_in : ℕ → List ℕ → Option ℕ
 number_in base [] = None
 number_in base (digit ∷ digits) = number_from base 0 (digit ∷ digits)
 
+-- of two or more decimal digits the first isn't `0` (48)
 abbrev pub decimal_number : List ℕ → Option ℕ
-decimal_number (digit ∷ next ∷ digits) = if nat_eq digit 48 then None else number_in 10 (digit ∷ next ∷ digits)
+decimal_number (digit ∷ next ∷ digits) = if digit == 48 then None else number_in 10 (digit ∷ next ∷ digits)
 decimal_number digits = number_in 10 digits
 
 -- the number that a word is

@@ -29,6 +29,7 @@ ops_of lines.Stop = ops.Bad kinds.NotStarted ∷ []
 ops_of lines.Blank = []
 ops_of (lines.Bad kind) = ops.Bad kind ∷ []
 
+-- how a phase begins that a line opens
 abbrev pub opening_at : ℕ → Option ℕ → Opening
 opening_at line count = record { call = call_at line 1 (ops.Start count); count = count }
 
@@ -41,7 +42,8 @@ section_of (call ∷ calls) = parts.Section (call ∷ calls) ∷ []
 abbrev pub phase_of : Opening → List Call → ℕ → Part
 phase_of opening calls line = parts.Phase opening.call opening.count calls (call_at line 1 ops.Stop)
 
--- the parts of the lines from this number on, behind the calls of a section, or of a phase that is open
+-- The parts of the lines from number n on. Before them stand the calls of a section, or of the phase that is open.
+-- A line that neither opens nor closes a phase adds its calls to these.
 abbrev pub parts_from : Option Opening → List Call → ℕ → List Line → List Part
 parts_from None calls n [] = section_of calls
 parts_from (Some opening) calls n [] = phase_of opening calls n ∷ []

@@ -1,5 +1,6 @@
 -- Which frames the phases of a program take, in the capture's order.
-use Rattle.std.specs.Prelude.{ℕ, ◌+◌, nat_lt, Bool, true, false, List, [], ◌∷◌, length, take, drop, Option, None, Some, if◌then◌else◌}
+use Rattle.std.specs.Prelude.{ℕ, ◌+◌, nat_lt, Bool, true, false, List, [], ◌∷◌, length, take, drop, Option, None, Some, ◌||◌}
+use Rattle.std.specs.List.{list_any}
 use Rattle.packet_headers.specs.Layers.{layers}
 use Rattle.adapter.specs.declared.parcel.Parcel.{Parcel}
 use Rattle.flow_grammar.specs.declared.part.Part.{Part}
@@ -20,18 +21,31 @@ abbrev pub asks_stop : {X : Type 0} → Option ℕ → List X → Bool
 asks_stop None xs = true
 asks_stop (Some n) xs = nat_lt (length xs) n
 
+-- the same for a part of a program: a section takes no frame
+abbrev pub taken_by : {X : Type 0} → Part → List X → List X
+taken_by (Section calls) frames = []
+taken_by (Phase opening count shell closing) frames = first count frames
+
+abbrev pub left_by : {X : Type 0} → Part → List X → List X
+left_by (Section calls) frames = frames
+left_by (Phase opening count shell closing) frames = behind_first count frames
+
+abbrev pub part_asks_stop : {X : Type 0} → Part → List X → Bool
+part_asks_stop (Section calls) frames = false
+part_asks_stop (Phase opening count shell closing) frames = asks_stop count frames
+
 -- whether a phase of the program asks for the capture's stop
 abbrev pub program_asks_stop : {X : Type 0} → List Part → List X → Bool
 program_asks_stop [] frames = false
-program_asks_stop (Section calls ∷ parts) frames = program_asks_stop parts frames
-program_asks_stop (Phase opening count shell closing ∷ parts) frames =
-    if asks_stop count frames then true else program_asks_stop parts (behind_first count frames)
+program_asks_stop (part ∷ parts) frames = part_asks_stop part frames || program_asks_stop parts (left_by part frames)
 
--- whether the program has a phase
+-- whether a program has a phase
+abbrev pub is_phase : Part → Bool
+is_phase (Section calls) = false
+is_phase (Phase opening count shell closing) = true
+
 abbrev pub has_phase : List Part → Bool
-has_phase [] = false
-has_phase (Section calls ∷ parts) = has_phase parts
-has_phase (Phase opening count shell closing ∷ parts) = true
+has_phase parts = list_any is_phase parts
 
 -- what a history keeps of the frame of that number and those bytes
 abbrev pub parcel_of : ℕ → List ℕ → Parcel

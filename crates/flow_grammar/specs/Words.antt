@@ -1,8 +1,8 @@
 -- The words of a line.
-use Rattle.std.specs.Prelude.{ℕ, ◌==◌, ◌||◌, ◌&&◌, Bool, true, false, not, nat_le, List, [], ◌∷◌, filter, codes, bytes_eq, Option, None, Some, if◌then◌else◌}
+use Rattle.std.specs.Prelude.{ℕ, ◌==◌, ◌||◌, ◌&&◌, Bool, true, false, not, nat_le, List, [], ◌∷◌, filter, bytes_eq, Option, None, Some, if◌then◌else◌}
 use Rattle.std.specs.List.{slice_split, take_while, list_all}
 
--- a space or a tab
+-- a space (32) or a tab (9)
 abbrev pub is_blank : ℕ → Bool
 is_blank byte = byte == 32 || byte == 9
 
@@ -11,7 +11,7 @@ abbrev pub is_word : List ℕ → Bool
 is_word [] = false
 is_word (byte ∷ bytes) = true
 
--- a word that begins with `#` begins a comment
+-- a word that begins with `#` (35) begins a comment
 abbrev pub begins_comment : List ℕ → Bool
 begins_comment [] = false
 begins_comment (byte ∷ bytes) = byte == 35
@@ -20,10 +20,11 @@ begins_comment (byte ∷ bytes) = byte == 35
 abbrev pub words_of : List ℕ → List (List ℕ)
 words_of line = take_while (λ word. not (begins_comment word)) (filter is_word (slice_split is_blank line))
 
--- printable ASCII but for the space
+-- printable ASCII (32 to 126) but for the space, which stands in no word
 abbrev pub is_printable : ℕ → Bool
 is_printable byte = nat_le 33 byte && nat_le byte 126
 
+-- all bytes of all words are printable
 abbrev pub are_printable : List (List ℕ) → Bool
 are_printable words = list_all (list_all is_printable) words
 

@@ -8,7 +8,8 @@ use std::alloc::{AllocError, Global};
 
 /// The lines between LFs, each with the CR at its end where it has one.
 pub(crate) fn lines_of(alloc: Global, script: &[u8]) -> Result<Vec<&[u8]>, AllocError>
-    ensures { IfOk result (λ lines. map (λ line. line.now) lines.items ≡ lines_with_returns script.now) }
+    ensures { IfOk result (λ lines. map (λ line. line.now) lines.items
+        ≡ lines_with_returns script.now) }
 {
     let mut lines = split_at_feeds(alloc, script)?;
     if ends_empty(&lines) {
@@ -18,14 +19,16 @@ pub(crate) fn lines_of(alloc: Global, script: &[u8]) -> Result<Vec<&[u8]>, Alloc
 }
 
 fn split_at_feeds(alloc: Global, script: &[u8]) -> Result<Vec<&[u8]>, AllocError>
-    ensures { IfOk result (λ lines. map (λ line. line.now) lines.items ≡ slice_split (λ byte. byte == 10) script.now) }
+    ensures { IfOk result (λ lines. map (λ line. line.now) lines.items
+        ≡ slice_split (λ byte. byte == 10) script.now) }
 {
     script.split(|byte| *byte == b'\n').collect(alloc)
 }
 
 /// Whether there is a last line, and it is empty.
 fn ends_empty(lines: &[&[u8]]) -> bool
-    ensures { result ≡ is_empty_line (slice_get (map (λ line. line.now) lines.now) (length lines.now - 1)) }
+    ensures { result
+        ≡ is_empty_line (slice_get (map (λ line. line.now) lines.now) (length lines.now - 1)) }
 {
     match lines.last() {
         Some(line) => line.is_empty(),

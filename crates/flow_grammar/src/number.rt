@@ -12,21 +12,16 @@ pub(crate) fn number_of_16_bits(word: &[u8]) -> Option<u16>
     let value = match word.strip_prefix(b"0x") {
         Some(digits) => digits_below(16, digits),
         None => decimal_below(word),
-    };
-    match value {
-        Some(value) => Some(value as u16),
-        None => None,
-    }
+    }?;
+    Some(value as u16)
 }
 
 /// The number of decimal digits without a leading zero.
 fn decimal_below(word: &[u8]) -> Option<u32>
     ensures { result ≡ below LIMIT (decimal_number word.now) }
 {
-    if word.len() > 1 {
-        if word[0] == b'0' {
-            return None;
-        }
+    if word.len() > 1 && word[0] == b'0' {
+        return None;
     }
     digits_below(10, word)
 }
@@ -42,9 +37,7 @@ fn digits_below(base: u32, digits: &[u8]) -> Option<u32>
     }
     let mut value: u32 = 0;
     for digit in digits {
-        let Some(next) = char::from(*digit).to_digit(base) else {
-            return None;
-        };
+        let next = char::from(*digit).to_digit(base)?;
         value = value * base + next;
         if value >= LIMIT {
             return None;

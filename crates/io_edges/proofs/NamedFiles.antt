@@ -1,5 +1,5 @@
 -- The first file of a name, found from the front on.
-use Rattle.std.proofs.Common.{◌≡◌, ℕ, ◌+◌, ◌<◌, true, false, List, [], length, drop, get_or, Option, None, Some, refl, sym, ◌∙◌, ap, add-one, drop-cons, String, Vec, Global, string_bytes}
+use Rattle.std.proofs.Common.{◌≡◌, ℕ, ◌+◌, ◌<◌, true, false, List, [], length, drop, get_or, Some, refl, sym, ◌∙◌, ap, add-one, drop-cons, String, Vec, Global, string_bytes}
 use Rattle.std.specs.Str.{bytes_eq}
 use Rattle.std.proofs.lemmas.List.{get_or-map}
 use Rattle.io_edges.specs.MemFiles.{plain, bytes_at}

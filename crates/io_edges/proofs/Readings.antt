@@ -1,9 +1,9 @@
 -- A cursor that moves on by some bytes, seen as bytes given and bytes left.
-use Rattle.std.proofs.Common.{◌≡◌, ℕ, ◌+◌, ◌-◌, ◌<◌, ◌≤◌, min, List, ◌++◌, length, take, drop, Option, None, Some, refl, sym, ◌∙◌, ap, take-add, [], take-append-drop, arith}
+use Rattle.std.proofs.Common.{◌≡◌, ℕ, ◌+◌, ◌-◌, ◌<◌, ◌≤◌, min, List, ◌++◌, length, take, drop, Option, refl, sym, ◌∙◌, ap, take-add, [], take-append-drop, arith}
 use Rattle.std.proofs.lemmas.List.{length-take-le, length-drop, drop-drop, drop_all}
 use Rattle.io_edges.specs.declared.cursor.Cursor.{Cursor}
 use Rattle.io_edges.specs.Plan.{allowed}
-use Rattle.io_edges.specs.Reading.{Reading, reading_of}
+use Rattle.io_edges.specs.Reading.{reading_of}
 
 -- behind `place` bytes there are just as many given, and the rest is left
 pub allowed-reading : (fail_at : Option ℕ) (bytes : List ℕ) (place most : ℕ) → place ≤ length bytes →

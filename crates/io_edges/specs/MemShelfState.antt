@@ -1,5 +1,5 @@
 -- What is told of a shelf in memory, and exactly what each call on it does.
-use Rattle.std.specs.Prelude.{◌≡◌, ℕ, ◌+◌, ◌==◌, Bool, true, false, List, [], ◌∷◌, length, map, Option, None, Some, Result, MatchResult, is_some, if◌then◌else◌}
+use Rattle.std.specs.Prelude.{◌≡◌, ℕ, ◌+◌, ◌==◌, Bool, true, false, List, [], length, Option, None, Some, Result, MatchResult, is_some, if◌then◌else◌}
 use Rattle.std.specs.Int.{from_bool}
 use Rattle.std.specs.List.{find, list_any}
 use Rattle.std.specs.Option.{option_map}
@@ -9,7 +9,7 @@ use Rattle.io_edges.specs.declared.shelf.Slot.TheVariants.{Script, Capture}
 use Rattle.io_edges.specs.MemSinkState.{MemSinkState, WritesExactly}
 use Rattle.io_edges.specs.Plan.{one_more}
 use Rattle.io_edges.specs.Reading.{Reading, ReadsExactly}
-use Rattle.io_edges.specs.ShelfState.{ShelfState, SlotState, WrittenState}
+use Rattle.io_edges.specs.ShelfState.{ShelfState, SlotState}
 
 -- One of the files that are read: whether it was asked for, whether it is opened, and its bytes with their fault.
 pub record MemSlotState : Type 0 where

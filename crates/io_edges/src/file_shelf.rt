@@ -145,12 +145,11 @@ pub struct FileShelf<R: Files + Drop> {
 }
 
 impl<R: Files + Drop> FileShelf<R> {
-    ghost use Rattle.io_edges.specs.Kept.{kept_state, written_state, untold_state, unasked_files};
+    ghost use Rattle.io_edges.specs.Kept.{unasked_files};
 
     /// A shelf of which nothing was asked for.
     pub fn new(rt: R) -> FileShelf<R>
-        ensures { untold_state (kept_state result.script) (kept_state result.capture) result.open_faults (written_state result.written)
-            ≡ unasked_files }
+        ensures { ⟦<FileShelf<R> as Shelf>⟧.state result ≡ unasked_files }
     {
         FileShelf {
             rt,

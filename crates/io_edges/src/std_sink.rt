@@ -15,7 +15,7 @@ pub struct StdSink<R: Print + Drop> {
 
 impl<R: Print + Drop> StdSink<R> {
     pub fn new(rt: R) -> StdSink<R>
-        ensures { result.faults ≡ 0 }
+        ensures { ⟦<StdSink<R> as Sink>⟧.faults result ≡ 0 }
     {
         StdSink { rt, faults: 0 }
     }

@@ -1,5 +1,5 @@
 -- Where nothing stands behind a UDP header, a frame's layers are its stack's.
-use Rattle.std.proofs.Common.{◌≡◌, refl, Option, Some, None, List, [], ◌++◌, append-nil}
+use Rattle.std.proofs.Common.{◌≡◌, Option, Some, None, List, ◌++◌, append-nil}
 use Rattle.packet_headers.specs.declared.items.LayerAt.{LayerAt}
 use Rattle.packet_headers.specs.declared.reading.Payload.{Payload}
 use Rattle.packet_headers.specs.Layers.{no_layers}

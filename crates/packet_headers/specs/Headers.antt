@@ -2,7 +2,6 @@
 use Rattle.std.specs.Prelude.{ℕ, List, [], ◌∷◌}
 use Rattle.packet_headers.specs.declared.items.ItemKind.{ItemKind}
 use Rattle.packet_headers.specs.declared.items.ItemKind.TheVariants as kind
-use Rattle.packet_headers.specs.declared.items.Layer.{Layer}
 use Rattle.packet_headers.specs.declared.items.LayerAt.{LayerAt}
 use Rattle.packet_headers.specs.declared.headers.Eth.{Eth}
 use Rattle.packet_headers.specs.declared.headers.Tag.{Tag}
@@ -11,15 +10,6 @@ use Rattle.packet_headers.specs.declared.headers.Ipv6.{Ipv6}
 use Rattle.packet_headers.specs.declared.headers.Tcp.{Tcp}
 use Rattle.packet_headers.specs.declared.headers.Udp.{Udp}
 use Rattle.packet_headers.specs.declared.headers.Vxlan.{Vxlan}
-use Rattle.packet_headers.specs.declared.stacks.Tags.{Tags}
-use Rattle.packet_headers.specs.declared.stacks.Tags.TheVariants as tags
-use Rattle.packet_headers.specs.declared.stacks.Network.{Network}
-use Rattle.packet_headers.specs.declared.stacks.Network.TheVariants as network
-use Rattle.packet_headers.specs.declared.stacks.Transport.{Transport}
-use Rattle.packet_headers.specs.declared.stacks.Transport.TheVariants as transport
-use Rattle.packet_headers.specs.declared.stacks.Stack.{Stack}
-use Rattle.packet_headers.specs.declared.stacks.Tunnel.{Tunnel}
-use Rattle.packet_headers.specs.declared.keys.Key.TheInside.{Inside}
 use Rattle.packet_headers.specs.Fields.{number_of}
 use Rattle.packet_headers.specs.Fields.{number_of}
 

@@ -2,7 +2,6 @@
 use Rattle.std.specs.Prelude.{ℕ, Bool, nat_eq, slice_index, if◌then◌else◌, Option, Some, None, List, [], ◌∷◌, ◌++◌}
 use Rattle.packet_headers.specs.declared.items.ItemKind.{ItemKind}
 use Rattle.packet_headers.specs.declared.items.ItemKind.TheVariants as kind
-use Rattle.packet_headers.specs.declared.items.Layer.{Layer}
 use Rattle.packet_headers.specs.declared.items.LayerAt.{LayerAt}
 use Rattle.packet_headers.specs.declared.headers.Eth.{Eth}
 use Rattle.packet_headers.specs.declared.headers.Tag.{Tag}
@@ -20,7 +19,6 @@ use Rattle.packet_headers.specs.declared.stacks.Transport.TheVariants as transpo
 use Rattle.packet_headers.specs.declared.stacks.Stack.{Stack}
 use Rattle.packet_headers.specs.declared.stacks.Tunnel.{Tunnel}
 use Rattle.packet_headers.specs.declared.keys.Key.TheInside.{Inside}
-use Rattle.packet_headers.specs.Fields.{number_of}
 use Rattle.packet_headers.specs.Stack.{outer_layers, tunnel_layers}
 
 -- the layers that a key holds

@@ -1,5 +1,5 @@
 -- A key is what its layers say: the layers of a key give back the key.
-use Rattle.std.proofs.Common.{◌≡◌, ℕ, Bool, true, false, refl, ap, sym, ◌∙◌, subst, if◌then◌else◌, Option, Some, None, List, [], ◌∷◌, ◌++◌, nat_eq}
+use Rattle.std.proofs.Common.{◌≡◌, Bool, true, false, refl, ap, sym, ◌∙◌, subst, if◌then◌else◌, Option, Some, None, List, [], ◌∷◌, ◌++◌, nat_eq}
 use Rattle.packet_headers.specs.declared.items.ItemKind.TheVariants as kind
 use Rattle.packet_headers.specs.declared.items.LayerAt.{LayerAt}
 use Rattle.packet_headers.specs.declared.headers.Eth.{Eth}
@@ -15,7 +15,7 @@ use Rattle.packet_headers.specs.declared.stacks.Tunnel.{Tunnel}
 use Rattle.packet_headers.specs.declared.keys.Key.TheInside.{Inside}
 use Rattle.packet_headers.specs.Fields.{number_of}
 use Rattle.packet_headers.specs.Headers.{eth_layer, tag_layer}
-use Rattle.packet_headers.specs.Stack.{tag_layers, network_layers, transport_layers, stack_layers, outer_layers, tunnel_layers}
+use Rattle.packet_headers.specs.Stack.{tag_layers, network_layers, transport_layers, outer_layers, tunnel_layers}
 use Rattle.packet_headers.specs.Key.{layers_of, is_of, of_kind, in_front, from_vxlan, eth_in, tag_in, tags_in, network_in, transport_in, outer_in, tunnel_in, key_of}
 
 flag-number : (b : Bool) → nat_eq (number_of b) 1 ≡ b

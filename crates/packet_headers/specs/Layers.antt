@@ -1,9 +1,8 @@
 -- The layers of a frame: its headers from the first byte on, each with its fields' numbers and its
 -- offset. Each definition takes the bytes that remain, and the type that announces what they are.
-use Rattle.std.specs.Prelude.{ℕ, ◌+◌, ◌*◌, ◌/◌, ◌%◌, ◌<◌, ◌≤◌, zero, suc, Bool, true, false, ◌==◌, nat_lt, nat_le, ◌&&◌, ◌||◌, bit_and, if◌then◌else◌, length, drop, List, [], ◌∷◌}
+use Rattle.std.specs.Prelude.{ℕ, ◌+◌, ◌*◌, ◌/◌, ◌%◌, ◌≤◌, zero, suc, Bool, false, ◌==◌, nat_lt, nat_le, ◌&&◌, ◌||◌, bit_and, if◌then◌else◌, length, drop, List, [], ◌∷◌}
 use Rattle.packet_headers.specs.declared.items.ItemKind.{ItemKind}
 use Rattle.packet_headers.specs.declared.items.ItemKind.TheVariants as kind
-use Rattle.packet_headers.specs.declared.items.Layer.{Layer}
 use Rattle.packet_headers.specs.declared.items.LayerAt.{LayerAt}
 use Rattle.packet_headers.specs.Fields.{fields_of, number_at, numbers_in, padded}
 
@@ -16,18 +15,24 @@ header k offset tag_follows rest =
 abbrev pub Payloads : Type 0
 Payloads = ℕ → List ℕ → List LayerAt
 
--- TCP for protocol 6, UDP for protocol 17. Behind UDP to port 4789 stand the layers of `inside`.
+-- what stands behind UDP to this port
+abbrev pub port_layers : Payloads → ℕ → ℕ → List ℕ → List LayerAt
+port_layers inside port offset rest = if port == 4789 then inside offset rest else []
+
+abbrev pub udp_layers : Payloads → ℕ → List ℕ → List LayerAt
+udp_layers inside offset rest =
+    if nat_le 8 (length rest) then
+    header kind.Udp offset false rest ∷ port_layers inside (number_at 2 2 rest) (offset + 8) (drop 8 rest)
+    else []
+
+abbrev pub tcp_layers : ℕ → List ℕ → List LayerAt
+tcp_layers offset rest = if nat_le 20 (length rest) then header kind.Tcp offset false rest ∷ [] else []
+
+-- TCP for protocol 6, UDP for protocol 17
 abbrev pub transport_layers : Payloads → ℕ → ℕ → List ℕ → List LayerAt
 transport_layers inside protocol offset rest =
-    if protocol == 6 then
-    (if nat_le 20 (length rest) then header kind.Tcp offset false rest ∷ [] else [])
-    else
-    (if protocol == 17 then
-    (if nat_le 8 (length rest) then
-    header kind.Udp offset false rest
-    ∷ (if number_at 2 2 rest == 4789 then inside (offset + 8) (drop 8 rest) else [])
-    else [])
-    else [])
+    if protocol == 6 then tcp_layers offset rest
+    else (if protocol == 17 then udp_layers inside offset rest else [])
 
 -- the version and the header's length in words of 4 bytes, which share the first byte
 abbrev pub version : List ℕ → ℕ
@@ -47,23 +52,29 @@ is_ipv6 rest = nat_le 40 (length rest) && (version rest == 6)
 abbrev pub is_first_fragment : List ℕ → Bool
 is_first_fragment rest = number_at 6 2 rest % 8192 == 0
 
--- IPv4 for type 0x0800, IPv6 for type 0x86DD. No transport header is read in a later fragment.
-abbrev pub network_layers : Payloads → ℕ → ℕ → List ℕ → List LayerAt
-network_layers inside ether_type offset rest =
-    if ether_type == 0x0800 then
-    (if is_ipv4 rest then
-    header kind.Ipv4 offset false rest
-    ∷ (if is_first_fragment rest then
+-- what an IPv4 header carries: no transport header is read in a later fragment
+abbrev pub carried_layers : Payloads → ℕ → List ℕ → List LayerAt
+carried_layers inside offset rest =
+    if is_first_fragment rest then
     transport_layers inside (number_at 9 1 rest) (offset + words rest * 4) (drop (words rest * 4) rest)
-    else [])
-    else [])
-    else
-    (if ether_type == 0x86DD then
-    (if is_ipv6 rest then
+    else []
+
+abbrev pub ipv4_layers : Payloads → ℕ → List ℕ → List LayerAt
+ipv4_layers inside offset rest =
+    if is_ipv4 rest then header kind.Ipv4 offset false rest ∷ carried_layers inside offset rest else []
+
+abbrev pub ipv6_layers : Payloads → ℕ → List ℕ → List LayerAt
+ipv6_layers inside offset rest =
+    if is_ipv6 rest then
     header kind.Ipv6 offset false rest
     ∷ transport_layers inside (number_at 6 1 rest) (offset + 40) (drop 40 rest)
-    else [])
-    else [])
+    else []
+
+-- IPv4 for type 0x0800, IPv6 for type 0x86DD
+abbrev pub network_layers : Payloads → ℕ → ℕ → List ℕ → List LayerAt
+network_layers inside ether_type offset rest =
+    if ether_type == 0x0800 then ipv4_layers inside offset rest
+    else (if ether_type == 0x86DD then ipv6_layers inside offset rest else [])
 
 -- a VLAN layer follows: the type is a TPID, more tags may be read, and 4 bytes remain
 abbrev pub tag_follows : ℕ → ℕ → List ℕ → Bool
@@ -90,13 +101,15 @@ frame_layers inside offset rest =
 abbrev pub no_layers : Payloads
 no_layers offset rest = []
 
--- VXLAN with its flag for a valid network id, and the inner frame, which holds no second VXLAN
+-- the flag of a valid network id
+abbrev pub is_vxlan : List ℕ → Bool
+is_vxlan rest = nat_le 8 (length rest) && (bit_and (number_at 0 1 rest) 8 == 8)
+
+-- VXLAN, and the inner frame, which holds no second VXLAN
 abbrev pub vxlan_layers : Payloads
 vxlan_layers offset rest =
-    if nat_le 8 (length rest) then
-    (if bit_and (number_at 0 1 rest) 8 == 8 then
+    if is_vxlan rest then
     header kind.Vxlan offset false rest ∷ frame_layers no_layers (offset + 8) (drop 8 rest)
-    else [])
     else []
 
 -- the layers of a frame

@@ -26,7 +26,14 @@ impl Eth {
         LayerAt {
             layer: Layer {
                 kind: ItemKind::Eth,
-                v: [self.dst as u128, self.src as u128, self.ether_type as u128, self.has_vlan as u128, 0, 0],
+                v: [
+                    self.dst as u128,
+                    self.src as u128,
+                    self.ether_type as u128,
+                    self.has_vlan as u128,
+                    0,
+                    0,
+                ],
             },
             offset: self.offset as usize,
         }
@@ -54,7 +61,14 @@ impl Tag {
         LayerAt {
             layer: Layer {
                 kind: ItemKind::Vlan,
-                v: [self.pcp as u128, self.dei as u128, self.vid as u128, self.inner_type as u128, self.has_more_vlan as u128, 0],
+                v: [
+                    self.pcp as u128,
+                    self.dei as u128,
+                    self.vid as u128,
+                    self.inner_type as u128,
+                    self.has_more_vlan as u128,
+                    0,
+                ],
             },
             offset: self.offset as usize,
         }
@@ -81,7 +95,14 @@ impl Ipv4 {
         LayerAt {
             layer: Layer {
                 kind: ItemKind::Ipv4,
-                v: [self.tos as u128, self.ttl as u128, self.proto as u128, self.src as u128, self.dst as u128, 0],
+                v: [
+                    self.tos as u128,
+                    self.ttl as u128,
+                    self.proto as u128,
+                    self.src as u128,
+                    self.dst as u128,
+                    0,
+                ],
             },
             offset: self.offset as usize,
         }
@@ -109,7 +130,14 @@ impl Ipv6 {
         LayerAt {
             layer: Layer {
                 kind: ItemKind::Ipv6,
-                v: [self.tc as u128, self.flow as u128, self.proto as u128, self.hop as u128, self.src.number(), self.dst.number()],
+                v: [
+                    self.tc as u128,
+                    self.flow as u128,
+                    self.proto as u128,
+                    self.hop as u128,
+                    self.src.number(),
+                    self.dst.number(),
+                ],
             },
             offset: self.offset as usize,
         }
@@ -134,7 +162,14 @@ impl Tcp {
         LayerAt {
             layer: Layer {
                 kind: ItemKind::Tcp,
-                v: [self.src as u128, self.dst as u128, self.flags as u128, 0, 0, 0],
+                v: [
+                    self.src as u128,
+                    self.dst as u128,
+                    self.flags as u128,
+                    0,
+                    0,
+                    0,
+                ],
             },
             offset: self.offset as usize,
         }

@@ -5,6 +5,7 @@ ghost use Rattle.packet_headers.specs.Stack.{outer_layers, tag_layers, network_l
 use crate::items::{Layer, LayerAt};
 use crate::stacks::{Network, Stack, Tags, Transport, Tunnel};
 use arrayvec::ArrayVec;
+use std::alloc::AllocError;
 use std::marker::Model;
 
 /// The most headers of one Ethernet frame: itself, two tags, a network and a transport header.
@@ -14,11 +15,14 @@ const STACK_LAYERS: usize = 5;
 const MOST_LAYERS: usize = 11;
 
 /// The headers of a frame, each with its offset.
-#[derive(Clone, Copy)]
+#[derive(Copy)]
 pub struct Key {
     pub outer: Option<Stack>,
     pub tunnel: Option<Tunnel>,
 }
+
+// A key is kept for each frame of a history.
+const _: () = prove!(size_of::<Key>() <= 240);
 
 impl Model for Key {
     ghost use Rattle.std.specs.Prelude.{List};
@@ -35,6 +39,14 @@ impl Model for Key {
     ghost use Rattle.packet_headers.specs.KeyBack.{key_of-layers_of};
 
     ghost inverse_ok = { λ k h. key_of-layers_of k };
+}
+
+impl Clone for Key {
+    ghost is_clone = { λ key copy. copy ≡ key };
+
+    fn clone(&self) -> Result<Key, AllocError> {
+        Ok(*self)
+    }
 }
 
 impl Key {

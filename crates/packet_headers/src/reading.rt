@@ -1,4 +1,4 @@
-ghost use Rattle.std.specs.Prelude.{◌≡◌, ℕ, ◌+◌, ◌*◌, ◌%◌, ◌≤◌, length, IfSome, Bool, false, [], ◌∷◌, ◌++◌};
+ghost use Rattle.std.specs.Prelude.{◌≡◌, ℕ, ◌+◌, ◌*◌, ◌%◌, ◌≤◌, ◌<◌, length, IfSome, Bool, false, [], ◌∷◌, ◌++◌};
 ghost use Rattle.std.specs.Bool.{OnTrue};
 ghost use Rattle.std.specs.Option.{ForSome};
 ghost use Rattle.packet_headers.specs.Fields.{number_at};
@@ -13,7 +13,7 @@ use crate::keys::Key;
 use crate::numbers::{behind, u8_at, u16_at, u24_at, u32_at, u48_at, u128_at};
 use crate::stacks::{Network, Stack, Tags, Transport, Tunnel};
 
-/// The types and protocols that announce a header, and the port that announces VXLAN.
+// The types of IEEE 802.1Q and 802.1ad, IPv4 and IPv6 behind Ethernet.
 const TAG_TYPE: u16 = 0x8100;
 
 const SERVICE_TAG_TYPE: u16 = 0x88a8;
@@ -22,20 +22,40 @@ const IPV4_TYPE: u16 = 0x0800;
 
 const IPV6_TYPE: u16 = 0x86dd;
 
+// The protocols behind IPv4 and IPv6.
 const TCP_PROTOCOL: u8 = 6;
 
 const UDP_PROTOCOL: u8 = 17;
 
+/// The UDP port that announces VXLAN.
 const VXLAN_PORT: u16 = 4789;
 
 /// The flag of a VXLAN header with a valid network id.
 const VALID_VNI: u8 = 0x08;
 
+// The bytes of each header, without options.
+const ETH_LEN: usize = 14;
+
+const TAG_LEN: usize = 4;
+
+const IPV4_LEN: usize = 20;
+
+const IPV6_LEN: usize = 40;
+
+const TCP_LEN: usize = 20;
+
+const UDP_LEN: usize = 8;
+
+const VXLAN_LEN: usize = 8;
+
+/// The unit of the header length of IPv4, in bytes.
+const WORD: usize = 4;
+
 /// The bytes behind a UDP header to the port of VXLAN, and their offset in the frame.
 #[derive(Clone, Copy)]
 struct Payload<'a> {
     bytes: &'a [u8],
-    offset: u8,
+    offset: usize,
 }
 
 /// What was read behind an Ethernet header.
@@ -55,8 +75,9 @@ struct Reading<'a> {
 }
 
 #[tactic(auto, unfolding(crate::specs::Layers::header))]
-fn read_eth(rest: &[u8], offset: u8, has_vlan: bool) -> Eth
-    requires { 14 ≤ length rest.now }
+fn read_eth(rest: &[u8], offset: usize, has_vlan: bool) -> Eth
+    requires room { ETH_LEN ≤ length rest.now }
+    requires offset { offset < 256 }
     ensures { headers.eth_layer result ≡ header kind.Eth offset has_vlan rest.now }
 {
     Eth {
@@ -64,13 +85,14 @@ fn read_eth(rest: &[u8], offset: u8, has_vlan: bool) -> Eth
         src: u48_at(rest, 6),
         ether_type: u16_at(rest, 12),
         has_vlan,
-        offset,
+        offset: offset as u8,
     }
 }
 
 #[tactic(auto, unfolding(crate::specs::Layers::header))]
-fn read_tag(rest: &[u8], offset: u8, has_more_vlan: bool) -> Tag
-    requires { 4 ≤ length rest.now }
+fn read_tag(rest: &[u8], offset: usize, has_more_vlan: bool) -> Tag
+    requires room { TAG_LEN ≤ length rest.now }
+    requires offset { offset < 256 }
     ensures { headers.tag_layer result ≡ header kind.Vlan offset has_more_vlan rest.now }
 {
     let control = u16_at(rest, 0);
@@ -80,13 +102,14 @@ fn read_tag(rest: &[u8], offset: u8, has_more_vlan: bool) -> Tag
         pcp: (control / 8192 % 8) as u8,
         dei: (control / 4096 % 2) as u8,
         has_more_vlan,
-        offset,
+        offset: offset as u8,
     }
 }
 
 #[tactic(auto, unfolding(crate::specs::Layers::header))]
-fn read_ipv4(rest: &[u8], offset: u8) -> Ipv4
-    requires { 20 ≤ length rest.now }
+fn read_ipv4(rest: &[u8], offset: usize) -> Ipv4
+    requires room { IPV4_LEN ≤ length rest.now }
+    requires offset { offset < 256 }
     ensures layer { headers.ipv4_layer result ≡ header kind.Ipv4 offset false rest.now }
     ensures proto { result.proto ≡ number_at 9 1 rest.now }
 {
@@ -96,13 +119,14 @@ fn read_ipv4(rest: &[u8], offset: u8) -> Ipv4
         tos: u8_at(rest, 1),
         ttl: u8_at(rest, 8),
         proto: u8_at(rest, 9),
-        offset,
+        offset: offset as u8,
     }
 }
 
 #[tactic(auto, unfolding(crate::specs::Layers::header))]
-fn read_ipv6(rest: &[u8], offset: u8) -> Ipv6
-    requires { 40 ≤ length rest.now }
+fn read_ipv6(rest: &[u8], offset: usize) -> Ipv6
+    requires room { IPV6_LEN ≤ length rest.now }
+    requires offset { offset < 256 }
     ensures layer { headers.ipv6_layer result ≡ header kind.Ipv6 offset false rest.now }
     ensures proto { result.proto ≡ number_at 6 1 rest.now }
 {
@@ -114,57 +138,60 @@ fn read_ipv6(rest: &[u8], offset: u8) -> Ipv6
         tc: (first / 1048576 % 256) as u8,
         proto: u8_at(rest, 6),
         hop: u8_at(rest, 7),
-        offset,
+        offset: offset as u8,
     }
 }
 
 #[tactic(auto, unfolding(crate::specs::Layers::header))]
-fn read_tcp(rest: &[u8], offset: u8) -> Tcp
-    requires { 20 ≤ length rest.now }
+fn read_tcp(rest: &[u8], offset: usize) -> Tcp
+    requires room { TCP_LEN ≤ length rest.now }
+    requires offset { offset < 256 }
     ensures { headers.tcp_layer result ≡ header kind.Tcp offset false rest.now }
 {
     Tcp {
         src: u16_at(rest, 0),
         dst: u16_at(rest, 2),
         flags: u8_at(rest, 13),
-        offset,
+        offset: offset as u8,
     }
 }
 
 #[tactic(auto, unfolding(crate::specs::Layers::header))]
-fn read_udp(rest: &[u8], offset: u8) -> Udp
-    requires { 8 ≤ length rest.now }
+fn read_udp(rest: &[u8], offset: usize) -> Udp
+    requires room { UDP_LEN ≤ length rest.now }
+    requires offset { offset < 256 }
     ensures layer { headers.udp_layer result ≡ header kind.Udp offset false rest.now }
     ensures dst { result.dst ≡ number_at 2 2 rest.now }
 {
     Udp {
         src: u16_at(rest, 0),
         dst: u16_at(rest, 2),
-        offset,
+        offset: offset as u8,
     }
 }
 
 #[tactic(auto, unfolding(crate::specs::Layers::header))]
-fn read_vxlan(rest: &[u8], offset: u8) -> Vxlan
-    requires { 8 ≤ length rest.now }
+fn read_vxlan(rest: &[u8], offset: usize) -> Vxlan
+    requires room { VXLAN_LEN ≤ length rest.now }
+    requires offset { offset < 256 }
     ensures { headers.vxlan_layer result ≡ header kind.Vxlan offset false rest.now }
 {
     Vxlan {
         vni: u24_at(rest, 4),
-        offset,
+        offset: offset as u8,
     }
 }
 
 /// Whether a VLAN layer stands in the bytes that remain behind this type.
 fn is_tag(rest: &[u8], ether_type: u16) -> bool
     ensures tag { result ≡ tag_follows 1 ether_type rest.now }
-    ensures room { OnTrue result (4 ≤ length rest.now) }
+    ensures room { OnTrue result (TAG_LEN ≤ length rest.now) }
 {
     if ether_type == TAG_TYPE {
-        return rest.len() >= 4;
+        return rest.len() >= TAG_LEN;
     }
     if ether_type == SERVICE_TAG_TYPE {
-        return rest.len() >= 4;
+        return rest.len() >= TAG_LEN;
     }
     false
 }
@@ -172,10 +199,10 @@ fn is_tag(rest: &[u8], ether_type: u16) -> bool
 /// Whether a whole IPv4 header with its options stands in the bytes that remain.
 fn is_ipv4(rest: &[u8]) -> bool
     ensures header { result ≡ is_ipv4 rest.now }
-    ensures room { OnTrue result (20 ≤ length rest.now) }
+    ensures room { OnTrue result (IPV4_LEN ≤ length rest.now) }
     ensures options { OnTrue result (words rest.now * 4 ≤ length rest.now) }
 {
-    if rest.len() < 20 {
+    if rest.len() < IPV4_LEN {
         return false;
     }
     let first = u8_at(rest, 0);
@@ -186,15 +213,15 @@ fn is_ipv4(rest: &[u8]) -> bool
     if words < 5 {
         return false;
     }
-    rest.len() >= words as usize * 4
+    rest.len() >= words as usize * WORD
 }
 
 /// Whether a whole IPv6 header stands in the bytes that remain.
 fn is_ipv6(rest: &[u8]) -> bool
     ensures header { result ≡ is_ipv6 rest.now }
-    ensures room { OnTrue result (40 ≤ length rest.now) }
+    ensures room { OnTrue result (IPV6_LEN ≤ length rest.now) }
 {
-    if rest.len() < 40 {
+    if rest.len() < IPV6_LEN {
         return false;
     }
     u8_at(rest, 0) / 16 == 6
@@ -216,13 +243,14 @@ fn carried<'a>(transport: Transport, payload: Option<Payload<'a>>) -> Upper<'a>
 }
 
 /// The transport header that a protocol announces.
-fn read_transport(rest: &[u8], offset: u8, protocol: u8) -> Upper<'_>
+fn read_transport(rest: &[u8], offset: usize, protocol: u8) -> Upper<'_>
     requires { offset ≤ 180 }
-    ensures layers { (inside : Payloads) → transport_reading inside result ≡ transport_layers inside protocol offset rest.now }
+    ensures layers { (inside : Payloads) → transport_reading inside result
+        ≡ transport_layers inside protocol offset rest.now }
     ensures payload { IfSome result.payload (λ p. p.offset ≡ offset + 8) }
 {
     if protocol == TCP_PROTOCOL {
-        if rest.len() < 20 {
+        if rest.len() < TCP_LEN {
             return carried(Transport::None, None);
         }
         return carried(Transport::Tcp(read_tcp(rest, offset)), None);
@@ -230,7 +258,7 @@ fn read_transport(rest: &[u8], offset: u8, protocol: u8) -> Upper<'_>
     if protocol != UDP_PROTOCOL {
         return carried(Transport::None, None);
     }
-    if rest.len() < 8 {
+    if rest.len() < UDP_LEN {
         return carried(Transport::None, None);
     }
     let udp = read_udp(rest, offset);
@@ -238,16 +266,25 @@ fn read_transport(rest: &[u8], offset: u8, protocol: u8) -> Upper<'_>
         return carried(Transport::Udp(udp), None);
     }
     let payload = Payload {
-        bytes: behind(rest, 8),
-        offset: offset + 8,
+        bytes: behind(rest, UDP_LEN),
+        offset: offset + UDP_LEN,
     };
     carried(Transport::Udp(udp), Some(payload))
 }
 
+/// Whether an IPv4 header stands in front of the first bytes of what it carries.
+fn is_first_fragment(rest: &[u8]) -> bool
+    requires { IPV4_LEN ≤ length rest.now }
+    ensures { result ≡ is_first_fragment rest.now }
+{
+    u16_at(rest, 6) % 8192 == 0
+}
+
 /// The network header that a type announces, and what it carries.
-fn read_network(rest: &[u8], offset: u8, ether_type: u16) -> Upper<'_>
+fn read_network(rest: &[u8], offset: usize, ether_type: u16) -> Upper<'_>
     requires { offset ≤ 120 }
-    ensures layers { (inside : Payloads) → network_reading inside result ≡ network_layers inside ether_type offset rest.now }
+    ensures layers { (inside : Payloads) → network_reading inside result
+        ≡ network_layers inside ether_type offset rest.now }
     ensures payload { IfSome result.payload (λ p. p.offset ≤ offset + 68) }
 {
     if ether_type == IPV4_TYPE {
@@ -255,13 +292,13 @@ fn read_network(rest: &[u8], offset: u8, ether_type: u16) -> Upper<'_>
             return carried(Transport::None, None);
         }
         let header = read_ipv4(rest, offset);
-        if u16_at(rest, 6) % 8192 != 0 {
+        if !is_first_fragment(rest) {
             let mut upper = carried(Transport::None, None);
             upper.network = Network::V4(header);
             return upper;
         }
-        let len = u8_at(rest, 0) % 16 * 4;
-        let mut upper = read_transport(behind(rest, len as usize), offset + len, header.proto);
+        let len = u8_at(rest, 0) as usize % 16 * WORD;
+        let mut upper = read_transport(behind(rest, len), offset + len, header.proto);
         upper.network = Network::V4(header);
         return upper;
     }
@@ -272,15 +309,16 @@ fn read_network(rest: &[u8], offset: u8, ether_type: u16) -> Upper<'_>
         return carried(Transport::None, None);
     }
     let header = read_ipv6(rest, offset);
-    let mut upper = read_transport(behind(rest, 40), offset + 40, header.proto);
+    let mut upper = read_transport(behind(rest, IPV6_LEN), offset + IPV6_LEN, header.proto);
     upper.network = Network::V6(header);
     upper
 }
 
 /// Up to two tags, and the network header behind them.
-fn read_typed(rest: &[u8], offset: u8, ether_type: u16) -> Upper<'_>
+fn read_typed(rest: &[u8], offset: usize, ether_type: u16) -> Upper<'_>
     requires { offset ≤ 112 }
-    ensures layers { (inside : Payloads) → typed_reading inside result ≡ typed_layers 2 inside ether_type offset rest.now }
+    ensures layers { (inside : Payloads) → typed_reading inside result
+        ≡ typed_layers 2 inside ether_type offset rest.now }
     ensures payload { IfSome result.payload (λ p. p.offset ≤ offset + 76) }
 {
     if !is_tag(rest, ether_type) {
@@ -289,30 +327,35 @@ fn read_typed(rest: &[u8], offset: u8, ether_type: u16) -> Upper<'_>
         return upper;
     }
     let inner_type = u16_at(rest, 2);
-    let behind_tag = behind(rest, 4);
+    let behind_tag = behind(rest, TAG_LEN);
     if !is_tag(behind_tag, inner_type) {
-        let mut upper = read_network(behind_tag, offset + 4, inner_type);
+        let mut upper = read_network(behind_tag, offset + TAG_LEN, inner_type);
         upper.tags = Tags::One(read_tag(rest, offset, false));
         return upper;
     }
     let first = read_tag(rest, offset, true);
-    let second = read_tag(behind_tag, offset + 4, false);
-    let mut upper = read_network(behind(behind_tag, 4), offset + 8, u16_at(behind_tag, 2));
+    let second = read_tag(behind_tag, offset + TAG_LEN, false);
+    let mut upper = read_network(
+        behind(behind_tag, TAG_LEN),
+        offset + 2 * TAG_LEN,
+        u16_at(behind_tag, 2),
+    );
     upper.tags = Tags::Two(first, second);
     upper
 }
 
 /// An Ethernet frame.
-fn read_frame(rest: &[u8], offset: u8) -> Reading<'_>
-    requires room { 14 ≤ length rest.now }
+fn read_frame(rest: &[u8], offset: usize) -> Reading<'_>
+    requires room { ETH_LEN ≤ length rest.now }
     requires offset { offset ≤ 98 }
-    ensures layers { (inside : Payloads) → frame_reading inside result ≡ frame_layers inside offset rest.now }
+    ensures layers { (inside : Payloads) → frame_reading inside result
+        ≡ frame_layers inside offset rest.now }
     ensures payload { IfSome result.payload (λ p. p.offset ≤ offset + 90) }
 {
     let ether_type = u16_at(rest, 12);
-    let behind_eth = behind(rest, 14);
+    let behind_eth = behind(rest, ETH_LEN);
     let eth = read_eth(rest, offset, is_tag(behind_eth, ether_type));
-    let upper = read_typed(behind_eth, offset + 14, ether_type);
+    let upper = read_typed(behind_eth, offset + ETH_LEN, ether_type);
     Reading {
         stack: Stack {
             eth,
@@ -333,24 +376,24 @@ fn read_tunnel(payload: Option<Payload<'_>>) -> Option<Tunnel>
         return None;
     };
     let rest = payload.bytes;
-    if rest.len() < 8 {
+    if rest.len() < VXLAN_LEN {
         return None;
     }
     if u8_at(rest, 0) & VALID_VNI != VALID_VNI {
         return None;
     }
     Some(Tunnel {
-        inner: read_inner(behind(rest, 8), payload.offset + 8),
+        inner: read_inner(behind(rest, VXLAN_LEN), payload.offset + VXLAN_LEN),
         vxlan: read_vxlan(rest, payload.offset),
     })
 }
 
 /// The frame inside a tunnel, in which no second VXLAN is read.
-fn read_inner(rest: &[u8], offset: u8) -> Option<Stack>
+fn read_inner(rest: &[u8], offset: usize) -> Option<Stack>
     requires { offset ≤ 98 }
     ensures { stack.outer_layers result ≡ frame_layers no_layers offset rest.now }
 {
-    if rest.len() < 14 {
+    if rest.len() < ETH_LEN {
         return None;
     }
     Some(read_frame(rest, offset).stack)
@@ -363,7 +406,7 @@ pub fn parse(frame: &[u8]) -> Key
     ensures layers { result ≡ layers frame.now }
     ensures within { LieWithin 0 (length frame.now) result }
 {
-    if frame.len() < 14 {
+    if frame.len() < ETH_LEN {
         return Key {
             outer: None,
             tunnel: None,

@@ -1,3 +1,4 @@
 pub mod Options
 pub mod Serial
 pub mod Feed
+pub mod Run

@@ -7,7 +7,7 @@ use Rattle.adapter.specs.Entry.{Entry}
 use Rattle.adapter.specs.History.{asked_by, passed_by}
 use Rattle.flow_grammar.specs.declared.part.Part.{Part}
 use Rattle.flow_grammar.specs.declared.part.Part.TheVariants.{Section, Phase}
-use Rattle.flow_grammar.specs.Reach.{first, behind_first, parcel_of}
+use Rattle.flow_grammar.specs.Reach.{first, taken_by, left_by, parcel_of}
 
 abbrev pub shell : Caller
 shell = record { 0 = 0 }
@@ -26,22 +26,20 @@ passes_of limits h number [] = []
 passes_of limits h number (frame ∷ frames) = passed_by limits h lead (parcel_of number frame)
     ∷ passes_of limits (h ++ passed_by limits h lead (parcel_of number frame) ∷ []) (number + 1) frames
 
--- what a phase that takes these frames adds to it
-abbrev pub phase_of : Limits → List Entry → ℕ → List (List ℕ) → Call → List Call → Call → List Entry
-phase_of limits h number taken opening calls closing =
+-- What a part of a program adds to it, where the frames that remain are numbered on from a number. A phase adds its
+-- opening and the shell's calls, the frames that it takes, and its closing.
+abbrev pub part_of : Limits → List Entry → ℕ → List (List ℕ) → Part → List Entry
+part_of limits h number frames (Section calls) = asks_of limits h calls
+part_of limits h number frames (Phase opening count calls closing) =
     let asked = asks_of limits h (opening ∷ calls) in
-    let passed = passes_of limits (h ++ asked) number taken in
+    let passed = passes_of limits (h ++ asked) number (first count frames) in
     asked ++ (passed ++ asks_of limits ((h ++ asked) ++ passed) (closing ∷ []))
 
--- what the parts of a program add to it, where the frames that remain are numbered on from a number
+-- what the parts of a program add to it
 abbrev pub serial_from : Limits → List Entry → ℕ → List (List ℕ) → List Part → List Entry
 serial_from limits h number frames [] = []
-serial_from limits h number frames (Section calls ∷ parts) =
-    let asked = asks_of limits h calls in
-    asked ++ serial_from limits (h ++ asked) number frames parts
-serial_from limits h number frames (Phase opening count calls closing ∷ parts) =
-    let added = phase_of limits h number (first count frames) opening calls closing in
-    added ++ serial_from limits (h ++ added) (number + length (first count frames)) (behind_first count frames) parts
+serial_from limits h number frames (part ∷ parts) = part_of limits h number frames part
+    ++ serial_from limits (h ++ part_of limits h number frames part) (number + length (taken_by part frames)) (left_by part frames) parts
 
 -- the serial history of a program over a capture's frames
 abbrev pub serial : Limits → List Part → List (List ℕ) → List Entry

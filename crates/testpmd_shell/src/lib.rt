@@ -3,3 +3,6 @@
 
 mod ask;
 mod feed;
+mod options;
+mod run;
+mod words;

@@ -1,4 +1,4 @@
-use Rattle.std.proofs.Common.{ℕ, List, Option, sym, ◌∙◌, ap}
+use Rattle.std.proofs.Common.{ℕ, Option, sym, ◌∙◌, ap}
 use Rattle.io_edges.specs.MemFiles.{plain, bytes_at}
 use Rattle.io_edges.proofs.NamedFiles.{bytes_at-plain}
 use Rattle.io_edges.proofs.mem_shelf.file_bytes.Goals as goal

@@ -1,4 +1,4 @@
-use Rattle.std.proofs.Common.{◌≡◌, ℕ, ◌+◌, min, List, ◌++◌, length, take, drop, refl, sym, ◌∙◌, ap, subst, arith, take-add, add-zero, Some}
+use Rattle.std.proofs.Common.{ℕ, ◌+◌, List, ◌++◌, take, drop, refl, sym, ◌∙◌, ap, arith, take-add, add-zero}
 use Rattle.io_edges.specs.Plan.{allowed}
 use Rattle.io_edges.proofs.Readings.{allowed-reading, reading_of-add, drop-add, nothing_left}
 use Rattle.io_edges.proofs.cursor.Cursor.read.Goals as goal
