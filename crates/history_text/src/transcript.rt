@@ -97,3 +97,6 @@ fn print_end<K: Sink>(sink: &mut K, page: &mut Page, adapter: &Adapter, ending: 
         Ending::Whole => {}
     }
 }
+
+#[cfg(test)]
+mod tests;
