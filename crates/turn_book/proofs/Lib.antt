@@ -1,0 +1,12 @@
+pub mod Lists
+pub mod Owed
+pub mod Holders
+pub mod Draws
+pub mod Looks
+pub mod Leaves
+pub mod Seats
+pub mod Ends
+pub mod Mine
+pub mod Fresh
+pub mod Closing
+pub mod Turns
