@@ -97,3 +97,6 @@ fn answer<S: Shelf, K: Sink>(
         Err(Stopped::NoMemory) => Status::NoMemory,
     }
 }
+
+#[cfg(test)]
+mod tests;
