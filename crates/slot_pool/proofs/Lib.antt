@@ -1,0 +1,14 @@
+pub mod Handles
+pub mod Collects
+pub mod Places
+pub mod FreeLists
+pub mod Sound
+pub mod Neighbours
+pub mod Writes
+pub mod Grown
+pub mod Joined
+pub mod Relinked
+pub mod WithLink
+pub mod Views
+pub mod Walks
+pub mod LinkOps

@@ -1,0 +1,5 @@
+pub mod Handle
+pub mod Links
+pub mod Pool
+pub mod Place
+pub mod Lends
