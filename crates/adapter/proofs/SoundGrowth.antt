@@ -1,6 +1,6 @@
 -- An adapter stays sound behind one more entry.
-use Rattle.std.proofs.Common.{◌≡◌, ℕ, ◌<◌, ◌≤◌, ◌^◌, true, false, cond, List, [], ◌∷◌, ◌++◌, length, refl, sym, ap, ◌∙◌, append_assoc, append-nil, subst, arith, length-append, None, Some, nat_le}
-use Rattle.std.specs.List.{All}
+use Rattle.std.proofs.Common.{◌≡◌, ℕ, ◌<◌, ◌≤◌, ◌^◌, Bool, true, false, cond, List, [], ◌∷◌, ◌++◌, length, refl, sym, ap, ◌∙◌, append_assoc, append-nil, subst, arith, length-append, None, Some, nat_le}
+use Rattle.std.specs.List.{All, find}
 use Rattle.std.proofs.lemmas.List.Sums.{fold-append}
 use Rattle.std.proofs.lemmas.List.Elements.{All-append, All-cons, All-nil, All-head, All-tail}
 use Rattle.std.proofs.lemmas.Bool.{leb-false}
@@ -23,7 +23,7 @@ use Rattle.adapter.specs.Entry.{Entry, Asked, Passed}
 use Rattle.adapter.specs.State.{State, state_of, state_behind, state_after, opening, created, create_fault}
 use Rattle.adapter.specs.Reply.{answer_of}
 use Rattle.adapter.specs.Counted.{counted, IsBelow, HasRoom}
-use Rattle.adapter.specs.Verdict.{verdict_of}
+use Rattle.adapter.specs.Verdict.{verdict_of, verdict_by, matches_eth}
 use Rattle.adapter.specs.History.{IsLegalBehind, IsRight}
 use Rattle.adapter.specs.Sound.{Sound, AreLimits}
 use Rattle.adapter.proofs.TotalsGrowth.{totals_of-asked, totals_of-passed, totals_of-room, totals_of-nil}
@@ -99,11 +99,11 @@ Sound-asked limits rules rules' totals h caller call sound more is =
       queues = valid.queues;
     }
 
--- the queue of a verdict is one of the port's
-verdict_by-below : (limits : Limits) → 1 ≤ limits.rxq → (rules : List Rule) (layers : List LayerAt) → All (λ (rule : Rule). rule.queue < limits.rxq) rules → IsBelow limits.rxq (verdict_of rules layers).fate
-verdict_by-below limits some [] layers valid = some
-verdict_by-below limits some (rule ∷ rules) [] valid = verdict_by-below limits some rules [] (All-tail (λ (r : Rule). r.queue < limits.rxq) rule rules valid)
-verdict_by-below limits some (rule ∷ rules) (l ∷ ls) valid = All-head (λ (r : Rule). r.queue < limits.rxq) rule rules valid
+-- the queue of a rule that a test finds is one of the port's
+IsBelow-found : (limits : Limits) → 1 ≤ limits.rxq → (b : Bool) (rules : List Rule) → All (λ (rule : Rule). rule.queue < limits.rxq) rules → IsBelow limits.rxq (verdict_by (find (λ _. b) rules)).fate
+IsBelow-found limits some b [] valid = some
+IsBelow-found limits some true (rule ∷ rules) valid = All-head (λ (r : Rule). r.queue < limits.rxq) rule rules valid
+IsBelow-found limits some false (rule ∷ rules) valid = IsBelow-found limits some false rules (All-tail (λ (r : Rule). r.queue < limits.rxq) rule rules valid)
 
 IsBelow-more : (n : ℕ) (v : Verdict) → n ≤ 16 → IsBelow n v.fate → IsBelow 16 v.fate
 IsBelow-more n v more below = IsBelow-at n v.fate more below where
@@ -116,7 +116,7 @@ pub IsBelow-verdict : (limits : Limits) (rules : List Rule) (totals : Totals) (h
     → v ≡ verdict_of (state_of limits h).rules layers → IsBelow 16 v.fate
 IsBelow-verdict limits rules totals h layers v sound is =
     subst (λ (w : Verdict). IsBelow 16 w.fate) (sym (is ∙ ap (λ (s : State). verdict_of s.rules layers) sound.state))
-    (IsBelow-more limits.rxq (verdict_of rules layers) sound.ranges.queues (verdict_by-below limits sound.ranges.some_queue rules layers sound.queues))
+    (IsBelow-more limits.rxq (verdict_of rules layers) sound.ranges.queues (IsBelow-found limits sound.ranges.some_queue (matches_eth layers) rules sound.queues))
 
 -- the totals can rise
 pub HasRoom-totals : (limits : Limits) (rules : List Rule) (totals : Totals) (h : List Entry) → Sound limits rules totals h → HasRoom totals

@@ -3,14 +3,20 @@
 use Rattle.std.specs.Prelude.{Bool, true, false, List, [], ◌∷◌, Option, None, Some}
 use Rattle.std.specs.List.{find}
 use Rattle.packet_headers.specs.declared.items.LayerAt.{LayerAt}
+use Rattle.packet_headers.specs.declared.items.ItemKind.{ItemKind}
+use Rattle.packet_headers.specs.declared.items.ItemKind.TheVariants as kinds
 use Rattle.adapter.specs.declared.rule.Rule.{Rule}
 use Rattle.adapter.specs.declared.verdict.Verdict.{Verdict}
 use Rattle.adapter.specs.declared.verdict.Fate.TheVariants as fates
 
--- the pattern `eth` matches where a frame has an Ethernet header
+abbrev pub is_eth : ItemKind → Bool
+is_eth kinds.Eth = true
+is_eth _ = false
+
+-- the pattern `eth` matches a frame whose first layer is an Ethernet header
 abbrev pub matches_eth : List LayerAt → Bool
 matches_eth [] = false
-matches_eth (l ∷ _) = true
+matches_eth (l ∷ _) = is_eth l.layer.kind
 
 abbrev pub best : List Rule → List LayerAt → Option Rule
 best rules layers = find (λ _. matches_eth layers) rules

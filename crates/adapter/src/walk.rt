@@ -11,7 +11,10 @@ use packet_headers::Key;
 fn matches(key: &Key) -> bool
     ensures { result ≡ matches_eth key.now }
 {
-    key.len() != 0
+    match &key.outer {
+        Some(_) => true,
+        None => false,
+    }
 }
 
 /// The verdict of a frame that this rule takes.
