@@ -2,7 +2,7 @@
 ghost use Rattle.std.specs.Prelude.{◌≡◌, ◌≤◌, ◌<◌, ◌-◌, ◌^◌, length, Some, IfOk, IfErr, IfSome, OnOk, option_copied, false, IsTrue};
 ghost use Rattle.io_edges.specs.ShelfState.{read_faults};
 ghost use Rattle.testpmd_shell.specs.Options.{given_of};
-ghost use Rattle.testpmd_shell.specs.Session.{IsFresh, Allows, AllowsCapture, IsStoppedBy, IsReadByPhases};
+ghost use Rattle.testpmd_shell.specs.Session.{IsFresh, Allows, AllowsCapture, IsStoppedBy, IsReadByPhases, StopSizeTells};
 ghost use Rattle.testpmd_shell.specs.Fetch.{IsScriptStop, IsOpeningStop, OthersThanScript};
 ghost use Rattle.testpmd_shell.specs.Run.{due_in, number_in, IsOpen, IsTold};
 ghost use Rattle.testpmd_shell.specs.Due.{capture_of, files_of, limits_of, history_of, due_status};
@@ -106,6 +106,8 @@ pub(crate) fn fetch<S: Shelf>(
     ensures calm { OnOk result (read_faults (S.state shelf.new) ≡ read_faults (S.state shelf.old)) }
     ensures stopped { IfErr result (IsStoppedBy (files_of (given_of options.now) (S.state shelf.old).contents) (S.state shelf.old) (S.state shelf.new)) }
     ensures reads { IsReadByPhases (Some (given_of options.now)) (S.state shelf.old) (S.state shelf.new) }
+    ensures within { OnOk result (IfSome ((S.state shelf.old).contents options.now.script.now) (λ script. length script ≤ MAX_SCRIPT)) }
+    ensures size { IfErr result (λ why. IfSome ((S.state shelf.old).contents options.now.script.now) (λ script. StopSizeTells script why)) }
 {
     let script = read_script(alloc, shelf, options.script)?;
     let mut feed = open_capture(alloc, shelf, options.capture)?;

@@ -1,7 +1,7 @@
 //! A session: from the words to the transcript.
 ghost use Rattle.std.specs.Prelude.{◌≡◌, ◌≤◌, ◌<◌, ◌-◌, ◌^◌, ◌↔◌, map, None, Some, is_some};
 ghost use Rattle.testpmd_shell.specs.Options.{options_of, given_of};
-ghost use Rattle.testpmd_shell.specs.Session.{IsFresh, Allows, Says, SaysAll, Completes, CompletesAll, IsReadByPhases};
+ghost use Rattle.testpmd_shell.specs.Session.{IsFresh, Allows, Says, SaysAll, Completes, CompletesAll, IsReadByPhases, IsSizedBy};
 ghost use Rattle.testpmd_shell.specs.Due.{files_of};
 
 use crate::fetch::{Stopped, fetch};
@@ -36,6 +36,9 @@ pub fn session_serial<S: Shelf, K: Sink>(
     // with no failed call the status is the one that the files owe, or there was no memory
     ensures complete { CompletesAll (options_of (map (λ w. w.now) words.now)) (S.state shelf.old) (S.state shelf.new) (K.faults out.old) (K.faults out.new) result }
     ensures reads { IsReadByPhases (options_of (map (λ w. w.now) words.now)) (S.state shelf.old) (S.state shelf.new) }
+
+    // the script's size decides by itself
+    ensures size { IsSizedBy (options_of (map (λ w. w.now) words.now)) (S.state shelf.old) result }
 {
     let Some(options) = options(words) else {
         return Status::Usage;
@@ -67,6 +70,9 @@ pub fn session<R: Threads + Wait + Sync, S: Shelf + Send, K: Sink, G: Gate + Syn
     // with no failed call the status is the one that the files owe, or there was no memory
     ensures complete { CompletesAll (options_of (map (λ w. w.now) words.now)) (S.state shelf.old) (S.state shelf.new) (K.faults out.old) (K.faults out.new) result }
     ensures reads { IsReadByPhases (options_of (map (λ w. w.now) words.now)) (S.state shelf.old) (S.state shelf.new) }
+
+    // the script's size decides by itself
+    ensures size { IsSizedBy (options_of (map (λ w. w.now) words.now)) (S.state shelf.old) result }
 {
     session_serial(alloc, words, shelf, out)
 }
@@ -85,6 +91,7 @@ fn answer<S: Shelf, K: Sink>(
     ensures says { Says (given_of options.now) (files_of (given_of options.now) (S.state shelf.old).contents) (S.state shelf.old) (S.state shelf.new)
         (K.taken out.old) (K.taken out.new) (K.faults out.old) (K.faults out.new) result }
     ensures reads { IsReadByPhases (Some (given_of options.now)) (S.state shelf.old) (S.state shelf.new) }
+    ensures size { IsSizedBy (Some (given_of options.now)) (S.state shelf.old) result }
 {
     match fetch(alloc, options, shelf) {
         Ok(adapter) => match print_history(&adapter, Ending::Whole, out) {
