@@ -1,0 +1,9 @@
+pub mod Asked
+pub mod FieldLists
+pub mod FirstFaults
+pub mod GuideFits
+pub mod OneValue
+pub mod Ranges
+pub mod Rises
+pub mod ShapeMatches
+pub mod Walks

@@ -1,0 +1,7 @@
+-- The values of the fields before this one stand there.
+use Rattle.std.proofs.Common.{◌≡◌, ℕ, ◌<◌, length, get_or}
+use Rattle.pattern_items.specs.Shape.{on_field}
+use Rattle.pattern_items.proofs.shape.values.Given as goal
+
+abbrev pub invariant-loop-field : goal.invariant-loop-field
+invariant-loop-field l = (length l.value-items ≡ 6) × ((k : ℕ) → k < l.field → get_or l.value-items k 0 ≡ (on_field l.item.conditions.items k).low)
