@@ -1,0 +1,10 @@
+pub mod Lists
+pub mod Rows
+pub mod RingSteps
+pub mod RingCuts
+pub mod RingFacts
+pub mod FreeSteps
+pub mod Calls
+pub mod Making
+pub mod Draining
+pub mod SharedPasses

@@ -1,0 +1,9 @@
+pub mod Frame
+pub mod Views
+pub mod Rows
+pub mod RingRule
+pub mod FreeRule
+pub mod Steps
+pub mod Passes
+pub mod Rings
+pub mod Changes
