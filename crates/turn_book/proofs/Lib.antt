@@ -10,3 +10,4 @@ pub mod Mine
 pub mod Fresh
 pub mod Closing
 pub mod Turns
+pub mod SharedSeats

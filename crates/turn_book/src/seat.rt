@@ -5,13 +5,18 @@ ghost use Rattle.turn_book.specs.Seats.{seats_in, limit_of};
 use crate::entries::Entries;
 use crate::view::Knows;
 
-/// One caller's seat at a book. It may go to another thread, and takes the turns there.
+/// One caller's seat at a book. It may go to another thread, and takes the turns there. Threads may
+/// also share it by reference.
 #[derive(Drop)]
 pub struct Seat<M: Entries> {
     pub(crate) token: atomic_table::Seat<Option<M>, Knows<M::Entry, M::Fixed>>,
     pub(crate) number: u32,
     pub(crate) left: u64,
 }
+
+// The base crate's seat is `Send` alone. That sharing is fine too is proved in
+// proofs/SharedSeats.antt, and each function that shares a seat or a list of seats cites it.
+unsafe impl<M: Entries + Send> Sync for Seat<M> {}
 
 impl<M: Entries> Seat<M> {
     /// The turns that this seat may still take.

@@ -23,12 +23,14 @@ fn crosses<T: Send>(_value: &T) {}
 
 fn is_shared<T: Sync>(_value: &T) {}
 
-// Each crosses threads where the value does, and threads may share a book of such a value.
+// Each crosses threads where the value does, and threads may share each then.
 fn all_cross<M: Entries + Send>(book: &Book<M>, seat: &Seat<M>, seats: &SeatList<M>) {
     crosses(book);
     is_shared(book);
     crosses(seat);
+    is_shared(seat);
     crosses(seats);
+    is_shared(seats);
 }
 
 #[test]

@@ -1,5 +1,6 @@
-use crate::{Entry, log_of_two};
+use crate::{Entry, Log, log_of_two};
 use std::test::Fail;
+use turn_book::{Book, Seat, SeatList};
 
 const TURNS: u64 = 1000;
 
@@ -15,6 +16,28 @@ fn are_in_order(entries: &[Entry], seat: u32) -> bool {
         }
     }
     next == TURNS
+}
+
+fn is_shared<T: Sync>(_value: &T) {}
+
+// Threads may share what a log's callers hold.
+fn are_shared(book: &Book<Log>, seat: &Seat<Log>, seats: &SeatList<Log>) {
+    is_shared(book);
+    is_shared(seat);
+    is_shared(seats);
+}
+
+#[test]
+fn a_log_and_its_seats_may_be_shared(rt: HostRuntime) -> Result<(), Fail> {
+    let log = Log {
+        entries: Vec::new(rt.alloc()),
+    };
+    let (book, mut seats) = Book::new(rt.alloc(), log, 1).ok().ok_or("memory")?;
+    let seat = seats.pop().ok_or("one seat")?;
+    are_shared(&book, &seat, &seats);
+    assert!(rt; seats.push(seat).is_ok());
+    drop(book);
+    Ok(())
 }
 
 #[test]
