@@ -1,3 +1,4 @@
 pub mod Headers
 pub mod Records
 pub mod Moves
+pub mod Fronts

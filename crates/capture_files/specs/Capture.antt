@@ -1,5 +1,5 @@
 -- The frames and the stop of a capture file (pcap 2.4).
-use Rattle.std.specs.Prelude.{ℕ, zero, suc, ◌+◌, List, [], ◌∷◌, length, drop, Result, Ok, Err}
+use Rattle.std.specs.Prelude.{◌≡◌, ℕ, zero, suc, ◌+◌, List, [], ◌∷◌, ◌++◌, length, drop, Result, Ok, Err}
 use Rattle.capture_files.specs.declared.header.Format.{Format}
 use Rattle.capture_files.specs.declared.record.Progress.{Progress}
 use Rattle.capture_files.specs.declared.stop.Stop.{Stop}
@@ -48,3 +48,7 @@ capture_from progress bytes = then_or_stop (header_of bytes) (λ format. records
 -- the frames and the stop of a file's bytes
 abbrev pub capture : List ℕ → Capture
 capture bytes = capture_from start bytes
+
+-- these frames come first among those
+abbrev pub ComeFirst : List Frame → List Frame → Type 0
+ComeFirst first all = (rest : List Frame) × (all ≡ first ++ rest)

@@ -11,7 +11,8 @@
 // but how far it has come, and reads a record into its caller's buffer from a source that may give single bytes. It is
 // the same since a record is told by its own bytes, whatever stands behind it: so what is still to come, `rest_of` in
 // `specs/Reader.antt`, is a function of the reader and of the bytes that its source has left. Each answer of `next` takes
-// one frame off it, or is its stop; a fresh reader has the whole capture to come.
+// one frame off it, or is its stop; a fresh reader has the whole capture to come. For the same reason the frames of a file's
+// front are the first of the file's, wherever the front ends (`frames_of_a_front_come_first`).
 //
 // Between two calls the source stands in front of the next record, or of the file header where none was read yet. Every
 // answer but a frame ends the reader: nothing is read behind it. Where the source fails in the midst of a record, the
@@ -26,12 +27,14 @@
 #![tactic(auto)]
 
 mod fill;
+mod front;
 mod header;
 mod parts;
 mod reader;
 mod record;
 mod stop;
 
+pub use front::frames_of_a_front_come_first;
 pub use reader::{CaptureReader, Next};
 pub use record::{MAX_FRAME_LEN, Stamp};
 pub use stop::CaptureKind;
