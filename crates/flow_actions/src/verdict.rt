@@ -1,0 +1,40 @@
+//! What becomes of a frame.
+ghost use Rattle.std.specs.Prelude.{◌≡◌};
+
+use arrayvec::ArrayVec;
+use std::alloc::AllocError;
+
+/// Where a frame ends.
+#[derive(Clone, Copy, Debug, PartialEq, Eq)]
+pub enum Fate {
+    /// It is delivered to this Rx queue.
+    Queue(u8),
+    /// It is dropped.
+    Drop,
+}
+
+/// The verdict on a frame: its fate, the mark and the RSS hash where it has them, and the ids of the rules on its way.
+#[derive(Drop)]
+pub struct Verdict {
+    pub fate: Fate,
+    pub mark: Option<u32>,
+    pub hash: Option<u32>,
+    pub path: ArrayVec<u32, 16>,
+}
+
+impl Clone for Verdict {
+    ghost is_clone = { λ v w. w ≡ v };
+
+    fn clone(&self) -> Result<Verdict, AllocError> {
+        let path = self.path.clone()?;
+        let fate = self.fate;
+        let mark = self.mark;
+        let hash = self.hash;
+        Ok(Verdict {
+            fate,
+            mark,
+            hash,
+            path,
+        })
+    }
+}

@@ -1,0 +1,44 @@
+//! Rules: when one is refused, and where rules send a frame.
+//!
+//! A user asks for a rule by its attributes (group, priority, direction), a pattern and a list of actions. [`validate`]
+//! answers the first fault, or the [`Rule`] that was asked for, ready to be matched. So of
+//!
+//! ```text
+//! group 16 ingress pattern eth / udp / end actions drop / queue index 0 / end
+//! ```
+//!
+//! the first fault is the group, which is out of range; with group 1 it is item 1, which doesn't follow the item before
+//! it; and with the pattern `udp / end` it is action 1, the second fate.
+//!
+//! The plain way to find the first fault is to write all faults in one list and take its head, and that is the definition
+//! (`specs/Faults`). The faults of the attributes come first, then those of the pattern, item by item from the left,
+//! then those of the actions, action by action. The code stops at the first one and makes no list.
+//!
+//! `specs/Best` and `specs/Walk` have what rules do to frames. A frame begins in group 0. Of the rules of a group that
+//! match it, that with the lowest priority number takes it, and among equals the one that took effect earlier. Its fate
+//! ends the walk or sends the frame on to a later group. So a walk meets at most 16 groups. The crates above keep rules
+//! in their own ways, and prove that they give what a scan of the list gives.
+//!
+//! The model: a rule is plain data, with the test that its pattern makes. Nothing here takes memory.
+#![tactic(auto)]
+
+mod change;
+mod fault;
+mod known;
+mod limits;
+mod next;
+mod rule;
+mod spec;
+mod validation;
+
+pub use change::Change;
+pub use fault::{Cause, ErrorType, Fault};
+pub use known::Known;
+pub use limits::Limits;
+pub use next::Next;
+pub use rule::Rule;
+pub use spec::{Attr, RuleSpec};
+pub use validation::validate;
+
+#[cfg(test)]
+mod tests;
