@@ -1,2 +1,3 @@
-pub mod TotalsGrowth
+pub mod FatesBelow
 pub mod SoundGrowth
+pub mod TotalsGrowth

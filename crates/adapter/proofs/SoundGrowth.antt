@@ -1,31 +1,35 @@
 -- An adapter stays sound behind one more entry.
-use Rattle.std.proofs.Common.{◌≡◌, ℕ, ◌<◌, ◌≤◌, ◌^◌, Bool, true, false, cond, List, [], ◌∷◌, ◌++◌, length, refl, sym, ap, ◌∙◌, append_assoc, append-nil, subst, arith, length-append, None, Some, nat_le}
-use Rattle.std.specs.List.{All, find}
-use Rattle.std.proofs.lemmas.List.Sums.{fold-append}
-use Rattle.std.proofs.lemmas.List.Elements.{All-append, All-cons, All-nil, All-head, All-tail}
+use Rattle.std.proofs.Common.{◌≡◌, ℕ, ◌-◌, ◌<◌, ◌≤◌, ◌^◌, Bool, true, false, cond, not, List, [], ◌∷◌, ◌++◌, length, refl, sym, ap, ◌∙◌, append_assoc, append-nil, subst, arith, length-append, Option, None, Some, nat_le}
+use Rattle.std.specs.List.{All}
+use Rattle.std.proofs.lemmas.List.Sums.{fold-append, length-filter, count_by-le-length}
+use Rattle.std.proofs.lemmas.List.Elements.{All-append, All-cons, All-nil, All-filter}
 use Rattle.std.proofs.lemmas.Bool.{leb-false}
 use Rattle.packet_headers.specs.declared.items.LayerAt.{LayerAt}
-use Rattle.adapter.specs.declared.limits.Limits.{Limits}
+use Rattle.flow_actions.specs.declared.verdict.Verdict.{Verdict}
+use Rattle.flow_actions.specs.declared.verdict.Fate.{Fate}
+use Rattle.flow_actions.specs.declared.verdict.Fate.TheVariants as fates
+use Rattle.flow_rules.specs.declared.limits.Limits.{Limits}
+use Rattle.flow_rules.specs.declared.spec.RuleSpec.{RuleSpec}
+use Rattle.flow_rules.specs.declared.fault.Fault.{Fault}
+use Rattle.flow_rules.specs.declared.fault.Cause.TheVariants as causes
+use Rattle.flow_rules.specs.RuleView.{RuleView}
+use Rattle.flow_rules.specs.Faults.{first_fault, rule_of}
+use Rattle.flow_rules.specs.Changes.{has_id}
+use Rattle.flow_rules.specs.Walk.{Flows, GROUPS, verdict_of}
+use Rattle.flow_rules.proofs.Validity.{on_port-clear}
 use Rattle.adapter.specs.declared.caller.Caller.{Caller}
 use Rattle.adapter.specs.declared.call.Call.{Call}
-use Rattle.adapter.specs.declared.call.RuleSpec.{RuleSpec}
 use Rattle.adapter.specs.declared.call.Op.{Op}
 use Rattle.adapter.specs.declared.call.Op.TheVariants as ops
-use Rattle.adapter.specs.declared.fault.Fault.{Fault}
-use Rattle.adapter.specs.declared.fault.Cause.TheVariants as causes
 use Rattle.adapter.specs.declared.parcel.Parcel.{Parcel}
 use Rattle.adapter.specs.declared.reply.Totals.{Totals}
-use Rattle.adapter.specs.declared.rule.Rule.{Rule}
-use Rattle.adapter.specs.declared.verdict.Verdict.{Verdict}
-use Rattle.adapter.specs.declared.verdict.Fate.{Fate}
-use Rattle.adapter.specs.declared.verdict.Fate.TheVariants as fates
 use Rattle.adapter.specs.Entry.{Entry, Asked, Passed}
-use Rattle.adapter.specs.State.{State, state_of, state_behind, state_after, opening, created, create_fault}
+use Rattle.adapter.specs.State.{State, state_of, state_behind, state_after, state_with, opening, created, create_fault, room_fault, first_of, plain, destroyed, is_in_effect}
 use Rattle.adapter.specs.Reply.{answer_of}
 use Rattle.adapter.specs.Counted.{counted, IsBelow, HasRoom}
-use Rattle.adapter.specs.Verdict.{verdict_of, verdict_by, matches_eth}
 use Rattle.adapter.specs.History.{IsLegalBehind, IsRight}
-use Rattle.adapter.specs.Sound.{Sound, AreLimits}
+use Rattle.adapter.specs.Sound.{Sound, AreLimits, IsFor}
+use Rattle.adapter.proofs.FatesBelow.{walk-below}
 use Rattle.adapter.proofs.TotalsGrowth.{totals_of-asked, totals_of-passed, totals_of-room, totals_of-nil}
 
 -- a legal history and a right entry behind it
@@ -39,36 +43,64 @@ pub state_of-push : (limits : Limits) (h : List Entry) (e : Entry) → state_of 
 state_of-push limits h e = fold-append (state_behind limits) opening h (e ∷ [])
 
 -- what a state keeps under its limits
-record IsValid (limits : Limits) (s : State) : Type 0 where
-  room : length s.rules ≤ limits.flow_max
-  queues : All (λ (rule : Rule). rule.queue < limits.rxq) s.rules
+pub record IsValid (limits : Limits) (s : State) : Type 0 where
+  pub room : length s.flows.rules ≤ limits.flow_max
+  pub numbers : s.ids < 2 ^ 32
+  pub queues : All (IsFor limits.rxq) s.flows.rules
 
-IsValid-created : (limits : Limits) (s : State) (spec : RuleSpec) → IsValid limits s → IsValid limits (created s spec (create_fault limits s spec))
-IsValid-created limits s spec v =
-    let conf : Fault = record { cause = causes.ActionConf; at = 0 } in
-    let full : Fault = record { cause = causes.StoreFull; at = 0 } in
-    elim (nat_le limits.rxq spec.queue) as (λ b. nat_le limits.rxq spec.queue ≡ b → IsValid limits (created s spec (cond b (Some conf) (cond (nat_le limits.flow_max (length s.rules)) (Some full) None)))) [
-      | true ↦ λ _. v
-      | false ↦ λ low. elim (nat_le limits.flow_max (length s.rules)) as (λ b. nat_le limits.flow_max (length s.rules) ≡ b → IsValid limits (created s spec (cond b (Some full) None))) [
-        | true ↦ λ _. v
-        | false ↦ λ few.
-            let rule : Rule = record { id = s.ids; queue = spec.queue } in
-            record {
-              room = omega (arith, length-append s.rules (rule ∷ []), leb-false limits.flow_max (length s.rules) few);
-              queues = All-append (λ (r : Rule). r.queue < limits.rxq) s.rules (rule ∷ []) v.queues
-                  (All-cons (λ (r : Rule). r.queue < limits.rxq) rule [] (leb-false limits.rxq spec.queue low) (All-nil (λ (r : Rule). r.queue < limits.rxq)));
-            }
-      ] refl
-    ] refl
+first_of-none : (a b : Option Fault) → first_of a b ≡ None → (a ≡ None) × (b ≡ None)
+first_of-none None b e = (refl, e)
+first_of-none (Some fault) b e = cc
+
+-- there is room for one more rule, and an id
+room-none : (limits : Limits) (s : State) → room_fault limits s ≡ None → (length s.flows.rules < limits.flow_max) × (s.ids < 2 ^ 32 - 1)
+room-none limits s = by (nat_le limits.flow_max (length s.flows.rules)) (nat_le (2 ^ 32 - 1) s.ids) refl refl where
+  by : (full spent : Bool) → nat_le limits.flow_max (length s.flows.rules) ≡ full → nat_le (2 ^ 32 - 1) s.ids ≡ spent
+      → cond full (Some (plain causes.StoreFull)) (cond spent (Some (plain causes.TooMany)) None) ≡ None
+      → (length s.flows.rules < limits.flow_max) × (s.ids < 2 ^ 32 - 1)
+  by true spent f t e = cc
+  by false true f t e = cc
+  by false false f t e = (leb-false limits.flow_max (length s.flows.rules) f, leb-false (2 ^ 32 - 1) s.ids t)
+
+IsValid-created : (limits : Limits) (s : State) (spec : RuleSpec) (fault : Option Fault) → create_fault limits s spec ≡ fault → IsValid limits s
+    → IsValid limits (state_with s (created s spec fault))
+IsValid-created limits s spec (Some fault) is v = v
+IsValid-created limits s spec None is v =
+    let parts = first_of-none (first_fault limits spec) (room_fault limits s) is in
+    let room = room-none limits s parts.1 in
+    let rule : RuleView = rule_of s.ids spec in
+    record {
+      room = omega (arith, room.0, length-append s.flows.rules (rule ∷ []));
+      numbers = omega (arith, room.1);
+      queues = All-append (IsFor limits.rxq) s.flows.rules (rule ∷ []) v.queues
+          (All-cons (IsFor limits.rxq) rule [] (on_port-clear limits spec parts.0) (All-nil (IsFor limits.rxq)));
+    }
+
+IsValid-destroyed : (limits : Limits) (s : State) (id : ℕ) (there : Bool) → IsValid limits s → IsValid limits (state_with s (destroyed id there))
+IsValid-destroyed limits s id true v =
+    let kept = λ (rule : RuleView). not (has_id id rule) in
+    record {
+      room = omega (arith, v.room, length-filter kept s.flows.rules, count_by-le-length kept s.flows.rules);
+      numbers = v.numbers;
+      queues = All-filter kept (IsFor limits.rxq) s.flows.rules v.queues;
+    }
+IsValid-destroyed limits s id false v = v
 
 IsValid-after : (limits : Limits) (s : State) (op : Op) → IsValid limits s → IsValid limits (state_after limits s op)
-IsValid-after limits s (ops.Create spec) v = IsValid-created limits s spec v
+IsValid-after limits s (ops.Validate spec) v = v
+IsValid-after limits s (ops.Create spec) v = IsValid-created limits s spec (create_fault limits s spec) refl v
+IsValid-after limits s (ops.Destroy id) v = IsValid-destroyed limits s id (is_in_effect id s) v
+IsValid-after limits s ops.Flush v = record { room = omega arith; numbers = v.numbers; queues = All-nil (IsFor limits.rxq) }
+IsValid-after limits s ops.List v = v
+IsValid-after limits s (ops.Isolate on) v = record { room = v.room; numbers = v.numbers; queues = v.queues }
 IsValid-after limits s (ops.Start _) v = v
 IsValid-after limits s ops.Stop v = v
+IsValid-after limits s ops.Quit v = v
 IsValid-after limits s (ops.Bad _) v = v
 
 -- an adapter without rules and entries
-pub Sound-nil : (limits : Limits) → AreLimits limits → Sound limits [] (record { received = 0; dropped = 0; queues = 0 ∷ 0 ∷ 0 ∷ 0 ∷ 0 ∷ 0 ∷ 0 ∷ 0 ∷ 0 ∷ 0 ∷ 0 ∷ 0 ∷ 0 ∷ 0 ∷ 0 ∷ 0 ∷ [] }) []
+pub Sound-nil : (limits : Limits) → AreLimits limits
+    → Sound limits (record { rules = []; isolated = false }) 0 (record { received = 0; dropped = 0; queues = 0 ∷ 0 ∷ 0 ∷ 0 ∷ 0 ∷ 0 ∷ 0 ∷ 0 ∷ 0 ∷ 0 ∷ 0 ∷ 0 ∷ 0 ∷ 0 ∷ 0 ∷ 0 ∷ [] }) []
 Sound-nil limits ranges = record {
   ranges = ranges;
   state = refl;
@@ -76,18 +108,25 @@ Sound-nil limits ranges = record {
   legal = tt;
   short = omega arith;
   room = omega arith;
-  queues = All-nil (λ (r : Rule). r.queue < limits.rxq);
+  numbers = omega arith;
+  queues = All-nil (IsFor limits.rxq);
 }
 
+pub IsValid-sound : (limits : Limits) (flows : Flows) (ids : ℕ) (totals : Totals) (h : List Entry) → Sound limits flows ids totals h
+    → (op : Op) → IsValid limits (state_after limits (record { flows = flows; ids = ids }) op)
+IsValid-sound limits flows ids totals h sound op =
+    IsValid-after limits (record { flows = flows; ids = ids }) op (record { room = sound.room; numbers = sound.numbers; queues = sound.queues })
+
 -- behind a call that was answered and carried out
-pub Sound-asked : (limits : Limits) (rules rules' : List Rule) (totals : Totals) (h : List Entry) (caller : Caller) (call : Call) → Sound limits rules totals h → length h < 2 ^ 32
-    → record { rules = rules'; ids = length rules' } ≡ state_after limits (record { rules = rules; ids = length rules }) call.op
-    → Sound limits rules' totals (h ++ Asked caller call (answer_of limits (record { rules = rules; ids = length rules }) totals call.op) ∷ [])
-Sound-asked limits rules rules' totals h caller call sound more is =
-    let s : State = record { rules = rules; ids = length rules } in
-    let s' : State = record { rules = rules'; ids = length rules' } in
+pub Sound-asked : (limits : Limits) (flows flows' : Flows) (ids ids' : ℕ) (totals : Totals) (h : List Entry) (caller : Caller) (call : Call)
+    → Sound limits flows ids totals h → length h < 2 ^ 32
+    → record { flows = flows'; ids = ids' } ≡ state_after limits (record { flows = flows; ids = ids }) call.op
+    → Sound limits flows' ids' totals (h ++ Asked caller call (answer_of limits (record { flows = flows; ids = ids }) totals call.op) ∷ [])
+Sound-asked limits flows flows' ids ids' totals h caller call sound more is =
+    let s : State = record { flows = flows; ids = ids } in
+    let s' : State = record { flows = flows'; ids = ids' } in
     let reply = answer_of limits s totals call.op in
-    let valid : IsValid limits s' = subst (IsValid limits) (sym is) (IsValid-after limits s call.op (record { room = sound.room; queues = sound.queues })) in
+    let valid : IsValid limits s' = subst (IsValid limits) (sym is) (IsValid-sound limits flows ids totals h sound call.op) in
     record {
       ranges = sound.ranges;
       state = state_of-push limits h (Asked caller call reply) ∙ ap (λ t. state_after limits t call.op) sound.state ∙ sym is;
@@ -96,42 +135,37 @@ Sound-asked limits rules rules' totals h caller call sound more is =
           (ap (λ t. answer_of limits t totals call.op) (sym sound.state) ∙ ap (λ t. answer_of limits (state_of limits h) t call.op) sound.counted);
       short = omega (arith, length-append h (Asked caller call reply ∷ []));
       room = valid.room;
+      numbers = valid.numbers;
       queues = valid.queues;
     }
 
--- the queue of a rule that a test finds is one of the port's
-IsBelow-found : (limits : Limits) → 1 ≤ limits.rxq → (b : Bool) (rules : List Rule) → All (λ (rule : Rule). rule.queue < limits.rxq) rules → IsBelow limits.rxq (verdict_by (find (λ _. b) rules)).fate
-IsBelow-found limits some b [] valid = some
-IsBelow-found limits some true (rule ∷ rules) valid = All-head (λ (r : Rule). r.queue < limits.rxq) rule rules valid
-IsBelow-found limits some false (rule ∷ rules) valid = IsBelow-found limits some false rules (All-tail (λ (r : Rule). r.queue < limits.rxq) rule rules valid)
-
-IsBelow-more : (n : ℕ) (v : Verdict) → n ≤ 16 → IsBelow n v.fate → IsBelow 16 v.fate
-IsBelow-more n v more below = IsBelow-at n v.fate more below where
-  IsBelow-at : (n : ℕ) (f : Fate) → n ≤ 16 → IsBelow n f → IsBelow 16 f
-  IsBelow-at n (fates.Queue q) more below = omega arith
-  IsBelow-at n fates.Drop more below = tt
+IsBelow-more : (n : ℕ) (fate : Fate) → n ≤ 16 → IsBelow n fate → IsBelow 16 fate
+IsBelow-more n (fates.Queue q) more below = omega arith
+IsBelow-more n fates.Drop more below = tt
 
 -- the queue of the verdict on a frame is one that the totals count
-pub IsBelow-verdict : (limits : Limits) (rules : List Rule) (totals : Totals) (h : List Entry) (layers : List LayerAt) (v : Verdict) → Sound limits rules totals h
-    → v ≡ verdict_of (state_of limits h).rules layers → IsBelow 16 v.fate
-IsBelow-verdict limits rules totals h layers v sound is =
-    subst (λ (w : Verdict). IsBelow 16 w.fate) (sym (is ∙ ap (λ (s : State). verdict_of s.rules layers) sound.state))
-    (IsBelow-more limits.rxq (verdict_of rules layers) sound.ranges.queues (IsBelow-found limits sound.ranges.some_queue (matches_eth layers) rules sound.queues))
+pub IsBelow-verdict : (limits : Limits) (flows : Flows) (ids : ℕ) (totals : Totals) (h : List Entry) (layers : List LayerAt) (v : Verdict)
+    → Sound limits flows ids totals h → v ≡ verdict_of (state_of limits h).flows layers → IsBelow 16 v.fate
+IsBelow-verdict limits flows ids totals h layers v sound is =
+    subst (λ (w : Verdict). IsBelow 16 w.fate) (sym (is ∙ ap (λ (s : State). verdict_of s.flows layers) sound.state))
+    (IsBelow-more limits.rxq (verdict_of flows layers).fate sound.ranges.queues (walk-below limits.rxq GROUPS sound.ranges.some_queue flows layers sound.queues 0 []))
 
 -- the totals can rise
-pub HasRoom-totals : (limits : Limits) (rules : List Rule) (totals : Totals) (h : List Entry) → Sound limits rules totals h → HasRoom totals
-HasRoom-totals limits rules totals h sound = subst HasRoom (sym sound.counted) (totals_of-room h sound.short)
+pub HasRoom-totals : (limits : Limits) (flows : Flows) (ids : ℕ) (totals : Totals) (h : List Entry) → Sound limits flows ids totals h → HasRoom totals
+HasRoom-totals limits flows ids totals h sound = subst HasRoom (sym sound.counted) (totals_of-room h sound.short)
 
 -- behind a frame that was entered and counted
-pub Sound-passed : (limits : Limits) (rules : List Rule) (totals totals' : Totals) (h : List Entry) (caller : Caller) (parcel : Parcel) (v : Verdict) → Sound limits rules totals h → length h < 2 ^ 32
-    → v ≡ verdict_of (state_of limits h).rules parcel.key → totals' ≡ counted totals v.fate
-    → Sound limits rules totals' (h ++ Passed caller parcel v ∷ [])
-Sound-passed limits rules totals totals' h caller parcel v sound more is count = record {
+pub Sound-passed : (limits : Limits) (flows : Flows) (ids : ℕ) (totals totals' : Totals) (h : List Entry) (caller : Caller) (parcel : Parcel) (v : Verdict)
+    → Sound limits flows ids totals h → length h < 2 ^ 32
+    → v ≡ verdict_of (state_of limits h).flows parcel.key → totals' ≡ counted totals v.fate
+    → Sound limits flows ids totals' (h ++ Passed caller parcel v ∷ [])
+Sound-passed limits flows ids totals totals' h caller parcel v sound more is count = record {
   ranges = sound.ranges;
   state = state_of-push limits h (Passed caller parcel v) ∙ sound.state;
-  counted = count ∙ ap (λ t. counted t v.fate) sound.counted ∙ totals_of-passed h caller parcel v (IsBelow-verdict limits rules totals h parcel.key v sound is);
+  counted = count ∙ ap (λ t. counted t v.fate) sound.counted ∙ totals_of-passed h caller parcel v (IsBelow-verdict limits flows ids totals h parcel.key v sound is);
   legal = IsLegalBehind-push limits [] h (Passed caller parcel v) sound.legal is;
   short = omega (arith, length-append h (Passed caller parcel v ∷ []));
   room = sound.room;
+  numbers = sound.numbers;
   queues = sound.queues;
 }

@@ -1,8 +1,8 @@
 -- Totals behind one more frame.
 use Rattle.std.specs.Prelude.{ℕ, ◌+◌, ◌<◌, ◌^◌, slice_index, slice_set}
 use Rattle.adapter.specs.declared.reply.Totals.{Totals}
-use Rattle.adapter.specs.declared.verdict.Fate.{Fate}
-use Rattle.adapter.specs.declared.verdict.Fate.TheVariants as fates
+use Rattle.flow_actions.specs.declared.verdict.Fate.{Fate}
+use Rattle.flow_actions.specs.declared.verdict.Fate.TheVariants as fates
 
 -- totals behind a frame of this fate
 abbrev pub counted : Totals → Fate → Totals

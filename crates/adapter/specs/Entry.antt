@@ -3,7 +3,7 @@ use Rattle.adapter.specs.declared.caller.Caller.{Caller}
 use Rattle.adapter.specs.declared.call.Call.{Call}
 use Rattle.adapter.specs.declared.reply.Reply.{Reply}
 use Rattle.adapter.specs.declared.parcel.Parcel.{Parcel}
-use Rattle.adapter.specs.declared.verdict.Verdict.{Verdict}
+use Rattle.flow_actions.specs.declared.verdict.Verdict.{Verdict}
 
 pub data Entry : Type 0 where
   Asked : Caller → Call → Reply → Entry

@@ -1,6 +1,6 @@
 -- What contracts see of an adapter, and of an entry that it lends.
 use Rattle.std.specs.Prelude.{◌≡◌, List, [], ◌∷◌, ◌++◌}
-use Rattle.adapter.specs.declared.limits.Limits.{Limits}
+use Rattle.flow_rules.specs.declared.limits.Limits.{Limits}
 use Rattle.adapter.specs.declared.entry.EntryView.{EntryView}
 use Rattle.adapter.specs.declared.entry.EntryView.TheVariants as views
 use Rattle.adapter.specs.Entry.{Entry, Asked, Passed}

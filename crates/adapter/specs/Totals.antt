@@ -2,8 +2,8 @@
 use Rattle.std.specs.Prelude.{ℕ, ◌==◌, Bool, true, false, List, map, count_by}
 use Rattle.std.specs.List.{range_with_len}
 use Rattle.adapter.specs.declared.reply.Totals.{Totals}
-use Rattle.adapter.specs.declared.verdict.Fate.{Fate}
-use Rattle.adapter.specs.declared.verdict.Fate.TheVariants as fates
+use Rattle.flow_actions.specs.declared.verdict.Fate.{Fate}
+use Rattle.flow_actions.specs.declared.verdict.Fate.TheVariants as fates
 use Rattle.adapter.specs.Entry.{Entry, Asked, Passed}
 
 abbrev pub passes_by : (Fate → Bool) → Entry → Bool

@@ -3,18 +3,18 @@ ghost use Rattle.std.specs.Prelude.{◌≡◌, ◌<◌, ◌≤◌, ◌^◌, [], 
 ghost use Rattle.adapter.specs.Entry.{Asked, Passed};
 ghost use Rattle.adapter.specs.Seen.{Enters, entry_of};
 
-use crate::answer::{answer, carry_out};
 use crate::call::Call;
 use crate::caller::Caller;
 use crate::count::count;
 use crate::entry::EntryView;
 use crate::history::History;
-use crate::limits::Limits;
+use crate::outcome::{Outcome, carry_out, judge};
 use crate::parcel::Parcel;
 use crate::reply::{Reply, Totals};
-use crate::rule::Rule;
-use crate::verdict::Verdict;
+use crate::standing::Standing;
 use crate::walk::walk;
+use flow_actions::Verdict;
+use flow_rules::{Limits, Rule};
 use packet_headers::Key;
 use std::alloc::{AllocError, Global};
 use std::marker::Model;
@@ -29,7 +29,13 @@ const MAX_ENTRIES: usize = 4_294_967_296;
 #[derive(Drop)]
 pub struct Adapter {
     limits: Limits,
+    alloc: Global,
+    /// The rules in effect, in the order in which they took effect.
     rules: Vec<Rule>,
+    /// Whether a frame that no rule takes is dropped.
+    isolated: bool,
+    /// How many rule ids were given.
+    ids: u32,
     totals: Totals,
     history: History,
 }
@@ -51,7 +57,7 @@ impl Adapter {
     ghost use Rattle.adapter.specs.Totals.{totals_of};
     ghost use Rattle.adapter.specs.Reply.{reply_to};
     ghost use Rattle.adapter.specs.History.{IsLegal};
-    ghost use Rattle.adapter.specs.Verdict.{verdict_of};
+    ghost use Rattle.flow_rules.specs.Walk.{verdict_of};
     ghost use Rattle.adapter.specs.Sound.{AreLimits};
 
     /// An adapter without rules, whose history is empty.
@@ -61,7 +67,10 @@ impl Adapter {
     {
         Ok(Adapter {
             limits,
+            alloc,
             rules: Vec::new(alloc),
+            isolated: false,
+            ids: 0,
             totals: Totals {
                 received: 0,
                 dropped: 0,
@@ -84,9 +93,17 @@ impl Adapter {
             return Err(AllocError);
         }
         self.rules.reserve(1)?;
-        let reply = answer(&self.limits, &self.rules, &self.totals, &call.op);
-        self.history.add_call(caller, call, reply)?;
-        carry_out(&self.limits, &mut self.rules, &call.op);
+        let standing = Standing {
+            limits: &self.limits,
+            rules: self.rules.as_slice(),
+            isolated: self.isolated,
+            ids: self.ids,
+            totals: &self.totals,
+        };
+        let Outcome { reply, change } = judge(self.alloc, &standing, &call.op)?;
+        let kept = reply.clone()?;
+        self.history.add_call(caller, call, kept)?;
+        carry_out(change, &mut self.rules, &mut self.isolated, &mut self.ids);
         Ok(reply)
     }
 
@@ -100,7 +117,7 @@ impl Adapter {
         verdict: &Verdict,
     ) -> Result<(), AllocError>
         requires worker { (9 ≤ caller.0) × (caller.0 ≤ 24) }
-        requires verdict { verdict.now ≡ verdict_of (state_of self.old.limits self.old.history).rules parcel.now.key }
+        requires verdict { verdict.now ≡ verdict_of (state_of self.old.limits self.old.history).flows parcel.now.key }
         ensures entered { OnOk result (Enters self.old self.new (Passed caller parcel.now verdict.now)) }
         ensures err { OnErr result (self.new ≡ self.old) }
     {
@@ -114,9 +131,9 @@ impl Adapter {
 
     /// The verdict on a frame of these layers by the rules in effect.
     pub fn verdict(&self, key: &Key) -> Verdict
-        ensures { result ≡ verdict_of (state_of self.now.limits self.now.history).rules key.now }
+        ensures { result ≡ verdict_of (state_of self.now.limits self.now.history).flows key.now }
     {
-        walk(&self.rules, key)
+        walk(self.rules.as_slice(), self.isolated, key)
     }
 
     /// The number of entries of the history.

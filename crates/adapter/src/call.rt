@@ -1,4 +1,8 @@
 //! The calls that a script makes.
+ghost use Rattle.std.specs.Prelude.{◌≡◌};
+
+use flow_rules::RuleSpec;
+use std::alloc::AllocError;
 
 /// Where a call stands in its script: the line, counted from 1, and the part of that line, counted from 1.
 #[derive(Clone, Copy, Debug, PartialEq, Eq)]
@@ -20,29 +24,44 @@ pub enum BadKind {
     AlreadyStarted,
 }
 
-/// A rule as asked for: the pattern is `eth`, the action sends the frame to a queue.
-#[derive(Clone, Copy, Debug, PartialEq, Eq)]
-pub struct RuleSpec {
-    /// The Rx queue.
-    pub queue: u16,
-}
-
 /// What a call asks for.
-#[derive(Clone, Copy, Debug, PartialEq, Eq)]
+#[derive(Clone, Debug, Drop)]
 pub enum Op {
-    /// `flow create`.
+    /// `flow validate`: whether a rule would be taken.
+    Validate(RuleSpec),
+    /// `flow create`: a rule takes effect.
     Create(RuleSpec),
+    /// `flow destroy`: the rule of this id goes.
+    Destroy(u32),
+    /// `flow flush`: all rules go.
+    Flush,
+    /// `flow list`: the rules in effect.
+    List,
+    /// `flow isolate`: whether frames that no rule takes are dropped.
+    Isolate(bool),
     /// Opens a phase over so many of the remaining frames, or over all of them.
     Start(Option<u32>),
     /// Closes a phase.
     Stop,
+    /// Ends the script.
+    Quit,
     /// A line that isn't carried out.
     Bad(BadKind),
 }
 
 /// A call with its place in the script.
-#[derive(Clone, Copy, Debug, PartialEq, Eq)]
+#[derive(Debug, Drop)]
 pub struct Call {
     pub at: At,
     pub op: Op,
+}
+
+impl Clone for Call {
+    ghost is_clone = { λ call copy. copy ≡ call };
+
+    fn clone(&self) -> Result<Call, AllocError> {
+        let op = self.op.clone()?;
+        let at = self.at;
+        Ok(Call { at, op })
+    }
 }

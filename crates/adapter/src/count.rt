@@ -3,7 +3,7 @@ ghost use Rattle.std.specs.Prelude.{◌≡◌, ◌<◌, ◌+◌, ◌^◌, length
 ghost use Rattle.adapter.specs.Counted.{counted, IsBelow, HasRoom};
 
 use crate::reply::Totals;
-use crate::verdict::Fate;
+use flow_actions::Fate;
 
 /// Counts a frame of this fate.
 pub(crate) fn count(totals: &mut Totals, fate: Fate)

@@ -3,7 +3,7 @@ use crate::call::Call;
 use crate::caller::Caller;
 use crate::parcel::Parcel;
 use crate::reply::Reply;
-use crate::verdict::Verdict;
+use flow_actions::Verdict;
 
 /// An entry, lent by the adapter that keeps it.
 #[derive(Clone, Copy)]

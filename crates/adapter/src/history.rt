@@ -8,7 +8,7 @@ use crate::caller::Caller;
 use crate::entry::EntryView;
 use crate::parcel::Parcel;
 use crate::reply::Reply;
-use crate::verdict::Verdict;
+use flow_actions::Verdict;
 use std::alloc::{AllocError, Global};
 use std::marker::Model;
 

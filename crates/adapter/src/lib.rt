@@ -7,8 +7,8 @@
 //
 // The naive answer keeps nothing but the list of entries. Each entry is a call with its reply, or a frame with its
 // verdict. To answer a call it folds the whole list into the state behind it: the rules in effect, in the order in which
-// they took effect. A frame's verdict is found by a scan of those rules: of the rules that match, the earliest wins, and
-// a frame that none matches goes to Rx queue 0. The totals are counts over the entries.
+// they took effect. A frame's verdict is found by a walk that scans those rules, group by group. The totals are counts
+// over the entries.
 //
 // The code here does the same with running values: a vector of the rules in effect and counters of the frames. The
 // type's invariant says that they are those of the history, and that the history is legal: each reply and each verdict is
@@ -20,37 +20,31 @@
 // this answers want of memory.
 //
 // The definitions stand in `specs/`: `Entry` and `History` (what is legal), `State` (what calls do), `Reply` (what they
-// answer), `Verdict` (what frames get), `Totals`. A later command adds a case to `State` and `Reply`, and a kind of rule
-// changes `Verdict`; nothing above these two words looks inside.
+// answer), `Rows` (what a list of rules tells), `Totals`; what rules do to frames stands in `flow_rules`. A later command
+// adds a case to `State` and `Reply`; nothing above these two words looks inside.
 //
 // Entries of frames are many, so they are small and lie in the list; a call lies in a box of its own.
 //
-// Not done here: reading scripts or captures, printing, threads. Patterns other than `eth`, actions other than `queue`,
-// groups, priorities and destruction come with later commands.
+// Not done here: reading scripts or captures, printing, threads.
 #![tactic(auto)]
 
 mod adapter;
-mod answer;
 mod call;
 mod caller;
 mod count;
 mod entry;
-mod fault;
 mod history;
-mod limits;
+mod outcome;
 mod parcel;
 mod reply;
-mod rule;
-mod verdict;
+mod rows;
+mod standing;
 mod walk;
 
 pub use adapter::Adapter;
-pub use call::{At, BadKind, Call, Op, RuleSpec};
+pub use call::{At, BadKind, Call, Op};
 pub use caller::Caller;
 pub use entry::EntryView;
-pub use fault::{Cause, Fault};
-pub use limits::Limits;
 pub use parcel::Parcel;
 pub use reply::{Reply, Totals};
-pub use rule::Rule;
-pub use verdict::{Fate, Verdict};
+pub use rows::{ListRow, RuleList};

@@ -1,6 +1,7 @@
 //! What the adapter answers to a call.
 use crate::call::BadKind;
-use crate::fault::Fault;
+use crate::rows::RuleList;
+use flow_rules::Fault;
 
 /// Frames counted since the session began.
 #[derive(Clone, Copy, Debug, PartialEq, Eq)]
@@ -12,12 +13,23 @@ pub struct Totals {
 }
 
 /// The answer to a call.
-#[derive(Clone, Copy, Debug, PartialEq, Eq)]
+#[derive(Clone, Debug, Drop)]
 pub enum Reply {
+    /// The rule would be taken.
+    Validated,
     /// The rule of this id took effect.
     Created(u32),
+    /// The rule of this id is gone.
+    Destroyed(u32),
+    /// All rules are gone.
+    Flushed,
+    Listed(RuleList),
+    /// Whether frames that no rule takes are dropped from now on.
+    Isolated(bool),
     Started,
     Stopped(Totals),
+    /// The script ends.
+    Bye,
     Bad(BadKind),
     Fault(Fault),
 }

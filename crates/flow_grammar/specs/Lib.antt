@@ -1,8 +1,10 @@
-pub mod Words
-pub mod Number
+pub mod Destroys
+pub mod Draft
+pub mod Forms
+pub mod Limits
 pub mod Line
 pub mod Lines
 pub mod Program
 pub mod Reach
 pub mod Whole
-pub mod Draft
+pub mod Words

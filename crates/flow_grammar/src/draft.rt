@@ -1,13 +1,13 @@
 //! A program as far as its lines were read.
-ghost use Rattle.std.specs.Prelude.{◌≡◌, ◌≤◌, ◌∷◌, ◌++◌, [], IfOk, OnOk, length};
-ghost use Rattle.flow_grammar.specs.Draft.{program_with, TakesIn};
+ghost use Rattle.std.specs.Prelude.{◌≡◌, ◌+◌, ◌≤◌, ◌^◌, ◌<◌, ◌∷◌, ◌++◌, [], IfOk, OnOk, length};
+ghost use Rattle.flow_grammar.specs.Draft.{program_with, TakesIn, IsCounted};
 ghost use Rattle.flow_grammar.specs.Program as spec;
 ghost use Rattle.flow_grammar.specs.Program.{calls_at, section_of, phase_of};
 
 use crate::call_list::CallList;
 use crate::line::Line;
 use crate::op_list::MOST_OPS;
-use crate::part::Part;
+use crate::part::{Part, Program};
 use adapter::{At, BadKind, Call, Op};
 use std::alloc::{AllocError, Global};
 use std::mem;
@@ -15,7 +15,7 @@ use std::mem;
 /// How the phase that is open began.
 #[derive(Clone, Copy)]
 struct Opening {
-    call: Call,
+    line: u32,
     count: Option<u32>,
 }
 
@@ -25,6 +25,8 @@ pub(crate) struct Draft {
     parts: Vec<Part>,
     opening: Option<Opening>,
     calls: CallList,
+    /// How many calls the program has if the script ends here, the closing of an open phase among them.
+    count: usize,
 }
 
 impl Draft {
@@ -33,52 +35,108 @@ impl Draft {
         ensures parts { result.parts.items ≡ [] }
         ensures opening { result.opening ≡ None }
         ensures calls { result.calls ≡ [] }
+        ensures count { result.count ≡ 0 }
     {
         Draft {
             parts: Vec::new(alloc),
             opening: None,
             calls: CallList::new(alloc),
+            count: 0,
         }
     }
 
-    /// Adds the line of this number.
-    pub(crate) fn add(&mut self, alloc: Global, number: u32, line: Line) -> Result<(), AllocError>
-        ensures { OnOk result (TakesIn self.old self.new number line) }
+    /// How many calls the program has if the script ends here.
+    pub(crate) fn count(&self) -> usize
+        ensures { result ≡ self.now.count }
     {
-        match line {
-            Line::Calls(ops) => add_ops(&mut self.calls, number, ops.as_slice()),
+        self.count
+    }
+
+    /// Adds the line of this number, and tells whether it ends the script.
+    pub(crate) fn add(&mut self, alloc: Global, number: u32, said: Line) -> Result<bool, AllocError>
+        requires counted { IsCounted self.old }
+        requires room { self.old.count < 2 ^ 32 }
+        ensures takes_in { IfOk result (λ ended. TakesIn self.old self.new number said ended) }
+        ensures counted { OnOk result (IsCounted self.new) }
+    {
+        match said {
+            Line::Calls(ops) => {
+                let ops = ops.as_slice();
+                add_ops(&mut self.calls, number, ops)?;
+                self.count += ops.len();
+                Ok(false)
+            }
             Line::Start(count) => self.start(alloc, number, count),
             Line::Stop => self.stop(alloc, number),
-            Line::Blank => Ok(()),
-            Line::Bad(kind) => self.calls.push(call_at(number, 1, Op::Bad(kind))),
+            Line::Quit => self.quit(alloc, number),
+            Line::Blank => Ok(false),
+            Line::Bad(kind) => {
+                self.push(number, 1, Op::Bad(kind))?;
+                Ok(false)
+            }
         }
     }
 
-    /// Opens a phase, unless one is open.
-    fn start(&mut self, alloc: Global, number: u32, count: Option<u32>) -> Result<(), AllocError>
-        ensures { OnOk result (TakesIn self.old self.new number (Line.Start count)) }
+    /// Puts a call behind those of the open part.
+    fn push(&mut self, line: u32, part: u16, op: Op) -> Result<(), AllocError>
+        requires { self.old.count < 2 ^ 32 }
+        ensures { OnOk result (self.new
+            ≡ record self.old { calls = self.old.calls ++ spec.call_at line part op ∷ []; count = self.old.count + 1 }) }
     {
-        if self.opening.is_some() {
-            return self
-                .calls
-                .push(call_at(number, 1, Op::Bad(BadKind::AlreadyStarted)));
-        }
-        self.end_section(alloc)?;
-        let call = call_at(number, 1, Op::Start(count));
-        self.opening = Some(Opening { call, count });
+        self.calls.push(call_at(line, part, op))?;
+        self.count += 1;
         Ok(())
     }
 
+    /// Opens a phase, unless one is open.
+    fn start(&mut self, alloc: Global, number: u32, count: Option<u32>) -> Result<bool, AllocError>
+        requires counted { IsCounted self.old }
+        requires room { self.old.count < 2 ^ 32 }
+        ensures takes_in { IfOk result (λ ended. TakesIn self.old self.new number (Line.Start count) ended) }
+        ensures counted { OnOk result (IsCounted self.new) }
+    {
+        if self.opening.is_some() {
+            self.push(number, 1, Op::Bad(BadKind::AlreadyStarted))?;
+            return Ok(false);
+        }
+        self.end_section(alloc)?;
+        self.opening = Some(Opening {
+            line: number,
+            count,
+        });
+        self.count += 2;
+        Ok(false)
+    }
+
     /// Closes the phase that is open.
-    fn stop(&mut self, alloc: Global, number: u32) -> Result<(), AllocError>
-        ensures { OnOk result (TakesIn self.old self.new number Line.Stop) }
+    fn stop(&mut self, alloc: Global, number: u32) -> Result<bool, AllocError>
+        requires counted { IsCounted self.old }
+        requires room { self.old.count < 2 ^ 32 }
+        ensures takes_in { IfOk result (λ ended. TakesIn self.old self.new number Line.Stop ended) }
+        ensures counted { OnOk result (IsCounted self.new) }
     {
         let Some(opening) = self.opening else {
-            return self
-                .calls
-                .push(call_at(number, 1, Op::Bad(BadKind::NotStarted)));
+            self.push(number, 1, Op::Bad(BadKind::NotStarted))?;
+            return Ok(false);
         };
-        self.end_phase(alloc, number, opening)
+        self.end_phase(alloc, number, opening)?;
+        Ok(false)
+    }
+
+    /// Ends the script, and first the phase that is open.
+    fn quit(&mut self, alloc: Global, number: u32) -> Result<bool, AllocError>
+        requires counted { IsCounted self.old }
+        requires room { self.old.count < 2 ^ 32 }
+        ensures takes_in { IfOk result (λ ended. TakesIn self.old self.new number Line.Quit ended) }
+        ensures counted { OnOk result (IsCounted self.new) }
+    {
+        let Some(opening) = self.opening else {
+            self.push(number, 1, Op::Quit)?;
+            return Ok(true);
+        };
+        self.end_phase(alloc, number, opening)?;
+        self.push(number, 2, Op::Quit)?;
+        Ok(true)
     }
 
     /// Ends the section, which is a part where it has a call.
@@ -86,6 +144,7 @@ impl Draft {
         ensures parts { OnOk result (self.new.parts.items ≡ self.old.parts.items ++ section_of self.old.calls) }
         ensures calls { OnOk result (self.new.calls ≡ []) }
         ensures opening { self.new.opening ≡ self.old.opening }
+        ensures count { self.new.count ≡ self.old.count }
     {
         if self.calls.is_empty() {
             return Ok(());
@@ -101,11 +160,12 @@ impl Draft {
             ≡ self.old.parts.items ++ phase_of opening self.old.calls number ∷ []) }
         ensures calls { OnOk result (self.new.calls ≡ []) }
         ensures opening { self.new.opening ≡ None }
+        ensures count { self.new.count ≡ self.old.count }
     {
         self.opening = None;
         let shell = mem::replace(&mut self.calls, CallList::new(alloc));
         self.parts.push(Part::Phase {
-            opening: opening.call,
+            opening: call_at(opening.line, 1, Op::Start(opening.count)),
             count: opening.count,
             shell,
             closing: call_at(number, 1, Op::Stop),
@@ -113,9 +173,9 @@ impl Draft {
         Ok(())
     }
 
-    /// The parts of a script that ends in front of the line of this number.
-    pub(crate) fn finish(mut self, alloc: Global, number: u32) -> Result<Vec<Part>, AllocError>
-        ensures { IfOk result (λ parts. parts.items ≡ program_with self number []) }
+    /// The program of a script that ends in front of the line of this number.
+    pub(crate) fn finish(mut self, alloc: Global, number: u32) -> Result<Program, AllocError>
+        ensures { IfOk result (λ program. program ≡ program_with self number []) }
     {
         match self.opening {
             Some(opening) => self.end_phase(alloc, number, opening)?,
@@ -125,8 +185,9 @@ impl Draft {
             parts,
             opening: _,
             calls: _,
+            count: _,
         } = self;
-        Ok(parts)
+        Ok(Program::new(parts))
     }
 }
 
@@ -146,7 +207,8 @@ fn add_ops(calls: &mut CallList, line: u32, ops: &[Op]) -> Result<(), AllocError
 {
     let mut part: u16 = 1;
     for op in ops {
-        calls.push(call_at(line, part, *op))?;
+        let op = op.clone()?;
+        calls.push(call_at(line, part, op))?;
         part += 1;
     }
     Ok(())

@@ -1,54 +1,63 @@
 //! Scripts: what a line says, and the program that a script's lines make.
 //!
 //! [`read_line`] tells what one line means wherever it stands. [`program`] puts a script together as a list of parts:
-//! sections, which are calls outside phases, and phases, which `start` opens and `stop` closes. So
+//! sections, which are calls outside phases, and phases, which `start` or `forward` opens and `stop` closes. So
 //!
 //! ```text
 //! # one queue
-//! flow create 0 ingress pattern eth / end actions queue index 1 / end
-//! start
-//! stop
-//! stop
+//! flow create 0 ingress pattern eth / ipv4 src is 10.1.2.3 / end actions queue index 1 / end
+//! forward 10
+//! quit
 //! ```
 //!
-//! is a section with the creation of a rule (line 2), a phase with no call of its own (opened by line 3, closed by
-//! line 4), and a section with a bad call: a `stop` where no phase is open (line 5).
+//! is a section with the creation of a rule (line 2), a phase of ten frames with no call of its own (opened by line 3,
+//! closed by line 4), and a section with the end of the script (line 4 again, as its second part).
 //!
 //! - Lines are split at LF, and the one CR at a line's end is dropped. They count from 1, blank ones too. Behind the
 //!   last LF stands a line only where it isn't empty.
 //! - Words stand between spaces and tabs. One that begins with `#` begins a comment, which reaches to the line's end.
-//!   An unprintable byte in front of the comment makes the line bad.
-//! - The forms are `flow create` as above with its queue as a number of 16 bits, `start`, and `stop`, in these words.
-//!   A line without words is blank, and any other line is bad. A number is `0`, or decimal digits without a leading
-//!   zero, or `0x` and hexadecimal digits of either case.
+//!   An unprintable byte in front of the comment makes the line bad. A line without words is blank.
+//! - The forms are `flow validate`, `create`, `destroy`, `flush`, `list` and `isolate`, and `start`, `forward NUMBER`,
+//!   `stop` and `quit`. A line that fits none is bad, and so is one with a value that is wider than its field. A flow line
+//!   with a port other than 0 is bad in a way of its own. The parts of a rule are read by `rule_words`.
 //! - A call has the place of its line, and of its part in the line, for lines that ask for several. `start` in a phase
-//!   is a bad call of that phase. Where the script ends in a phase, a `stop` in the line behind the last one closes it.
+//!   is a bad call of that phase. Where `quit` or the end of the script meets an open phase, a `stop` closes it.
+//! - A script has at most 65,536 lines and 65,536 calls.
 //!
-//! The model: a line is a list of words, read by cases on that list, and a program is a recursion over the numbered
-//! lines, which remembers the phase that is open and the calls since the last part. `specs/Words`, `specs/Number` and
-//! `specs/Line` have the reading of a line, `specs/Lines` the lines of a script, `specs/Program` the recursion. A new
-//! command adds cases to the reading of a line, and none to the recursion.
+//! The model: a line is a list of words, and each form is a reader of such lists; what a line says is what the first
+//! form says that fits. A program is a recursion over the numbered lines, which remembers the phase that is open and
+//! the calls since the last part. `specs/Words` and `Destroys` have parts of a line, `specs/Forms` the forms,
+//! `specs/Line` the reading, `specs/Lines` the lines of a script, `specs/Program` the recursion, and `specs/Limits` the
+//! limits. A new command is one more form in `specs/Forms` and in `forms.rt`, and none of it is a case of the
+//! recursion.
 //!
 //! The plain way is to do as the definitions say: make the list of all words of all lines, then all meanings, then walk
 //! over them. Here each line is read when its turn comes, from left to right, and goes into a draft of the program. The
-//! draft keeps the parts that are whole and the open one, and between two lines this holds: what the draft and the
-//! lines that are left make is the program. So the time is linear in the script's bytes.
+//! draft keeps the parts that are whole, the open one, and how many calls they have; between two lines this holds: what
+//! the draft and the lines that are left make is the program, and it has at least as many calls as were counted. So a
+//! script that is too large is given up where it passes the limit, and the time is linear in the script's bytes.
 //!
-//! Nothing is kept between calls. A call may fail for want of memory alone.
+//! Nothing is kept between calls, and no text is copied. Whether a rule has a fault is asked where it is validated or
+//! created.
 #![tactic(auto)]
 
 mod call_list;
+mod destroys;
 mod draft;
+mod forms;
 mod line;
 mod lines;
-mod number;
 mod op_list;
 mod part;
+mod program_fault;
 mod script;
+#[cfg(test)]
+mod shown;
 mod words;
 
 pub use call_list::CallList;
 pub use line::{Line, read_line};
 pub use op_list::OpList;
 pub use part::{Part, Program};
+pub use program_fault::ProgramFault;
 pub use script::program;

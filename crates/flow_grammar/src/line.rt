@@ -1,11 +1,15 @@
 //! What a line says.
 ghost use Rattle.std.specs.Prelude.{◌≡◌, IfOk, map};
-ghost use Rattle.flow_grammar.specs.Line.{line_of, line_of_words, create_of};
+ghost use Rattle.flow_grammar.specs.Forms.{flow_forms};
+ghost use Rattle.flow_grammar.specs.Line.{first_said, line_of, line_of_words};
 
-use crate::number::number_of_16_bits;
+use crate::forms::{
+    create_form, destroy_form, flush_form, forward_form, isolate_form, list_form, quit_form,
+    start_form, stop_form, validate_form,
+};
 use crate::op_list::OpList;
-use crate::words::{are_printable, are_words, behind, words_of};
-use adapter::{BadKind, Op, RuleSpec};
+use crate::words::{are_printable, words_of};
+use adapter::BadKind;
 use std::alloc::{AllocError, Global};
 
 /// What a line says, wherever it stands.
@@ -13,17 +17,20 @@ use std::alloc::{AllocError, Global};
 pub enum Line {
     /// Calls on the port, in order.
     Calls(OpList),
-    /// `start`: opens a phase over so many of the frames that remain, or over all of them.
+    /// `start` or `forward`: opens a phase over all frames that remain, or over so many of them.
     Start(Option<u32>),
     /// `stop`: closes a phase.
     Stop,
+    /// `quit`: ends the script.
+    Quit,
     /// No word.
     Blank,
     /// A line that isn't carried out.
     Bad(BadKind),
 }
 
-/// Reads a line, without its line end. Every line says something: one that fits no form is `Bad`.
+/// Reads a line, without its line end. Every line says one thing: one that fits no form is `Bad(Arguments)`, and one that
+/// fits a flow form with a port other than 0 is `Bad(Port)`.
 pub fn read_line(alloc: Global, line: &[u8]) -> Result<Line, AllocError>
     ensures { IfOk result (λ said. said ≡ line_of line.now) }
 {
@@ -41,37 +48,44 @@ fn read_words(alloc: Global, words: &[&[u8]]) -> Result<Line, AllocError>
     if words.is_empty() {
         return Ok(Line::Blank);
     }
-    if are_words(&[b"start"], words) {
-        return Ok(Line::Start(None));
+    if let Some(said) = flow_form(alloc, words)? {
+        return Ok(said);
     }
-    if are_words(&[b"stop"], words) {
-        return Ok(Line::Stop);
+    if let Some(said) = start_form(words) {
+        return Ok(said);
     }
-    match read_create(words) {
-        Some(queue) => {
-            let ops = OpList::single(alloc, Op::Create(RuleSpec { queue }))?;
-            Ok(Line::Calls(ops))
-        }
-        None => Ok(Line::Bad(BadKind::Arguments)),
+    if let Some(said) = forward_form(words) {
+        return Ok(said);
     }
+    if let Some(said) = stop_form(words) {
+        return Ok(said);
+    }
+    if let Some(said) = quit_form(words) {
+        return Ok(said);
+    }
+    Ok(Line::Bad(BadKind::Arguments))
 }
 
-/// The queue of the create form.
-fn read_create(words: &[&[u8]]) -> Option<u16>
-    ensures { result ≡ create_of (map (λ word. word.now) words.now) }
+/// What a flow line of these words says, if it fits a form.
+fn flow_form(alloc: Global, words: &[&[u8]]) -> Result<Option<Line>, AllocError>
+    ensures { IfOk result (λ said. said ≡ first_said flow_forms (map (λ word. word.now) words.now)) }
 {
-    let index = behind(
-        &[
-            b"flow", b"create", b"0", b"ingress", b"pattern", b"eth", b"/", b"end", b"actions",
-            b"queue", b"index",
-        ],
-        words,
-    )?;
-    let (number, rest) = index.split_first()?;
-    if !are_words(&[b"/", b"end"], rest) {
-        return None;
+    if let Some(said) = validate_form(alloc, words)? {
+        return Ok(Some(said));
     }
-    number_of_16_bits(number)
+    if let Some(said) = create_form(alloc, words)? {
+        return Ok(Some(said));
+    }
+    if let Some(said) = destroy_form(alloc, words)? {
+        return Ok(Some(said));
+    }
+    if let Some(said) = flush_form(alloc, words)? {
+        return Ok(Some(said));
+    }
+    if let Some(said) = list_form(alloc, words)? {
+        return Ok(Some(said));
+    }
+    isolate_form(alloc, words)
 }
 
 #[cfg(test)]

@@ -1,5 +1,5 @@
 //! What one line asks for.
-ghost use Rattle.std.specs.Prelude.{◌≡◌, ◌<◌, ◌≤◌, List, [], ◌∷◌, length, slice_get, IfOk};
+ghost use Rattle.std.specs.Prelude.{◌≡◌, ◌<◌, ◌≤◌, List, [], ◌∷◌, ◌++◌, length, slice_get, not, nat_lt, IfOk, OnOk};
 
 use adapter::Op;
 use std::alloc::{AllocError, Global};
@@ -27,6 +27,31 @@ impl Model for OpList {
 }
 
 impl OpList {
+    /// The list of no op.
+    pub(crate) fn new(alloc: Global) -> OpList
+        ensures { result ≡ [] }
+    {
+        OpList {
+            ops: Vec::new(alloc),
+        }
+    }
+
+    /// Whether there are as many ops as a line may ask for.
+    pub(crate) fn is_full(&self) -> bool
+        ensures { result ≡ not (nat_lt (length self.now) MOST_OPS) }
+    {
+        self.ops.len() >= MOST_OPS
+    }
+
+    /// Puts an op behind the others.
+    pub(crate) fn push(&mut self, op: Op) -> Result<(), AllocError>
+        requires { length self.old < MOST_OPS }
+        ensures { OnOk result (self.new ≡ self.old ++ op ∷ []) }
+    {
+        self.ops.push(op)?;
+        Ok(())
+    }
+
     /// The list of one op.
     pub(crate) fn single(alloc: Global, op: Op) -> Result<OpList, AllocError>
         ensures { IfOk result (λ list. list ≡ op ∷ []) }

@@ -4,3 +4,4 @@ pub mod Causes
 pub mod Replies
 pub mod Verdicts
 pub mod Text
+pub mod Rows

@@ -1,7 +1,7 @@
 -- The totals of the frames that passed, with those of the Rx queues that the port has.
 use Rattle.std.specs.Prelude.{ℕ, List, ◌++◌, map, take, codes, decimal}
 use Rattle.io_edges.specs.Commas.{with_commas}
-use Rattle.adapter.specs.declared.limits.Limits.{Limits}
+use Rattle.flow_rules.specs.declared.limits.Limits.{Limits}
 use Rattle.adapter.specs.declared.reply.Totals.{Totals}
 
 abbrev pub totals_text : Limits → Totals → List ℕ

@@ -1,9 +1,9 @@
 -- What is told of a frame's verdict. What it doesn't have is a `-`.
 use Rattle.std.specs.Prelude.{ℕ, ◌+◌, ◌/◌, ◌%◌, List, [], ◌∷◌, ◌++◌, map, nat_lt, if◌then◌else◌, Option, None, Some, codes, decimal}
 use Rattle.io_edges.specs.Commas.{with_commas}
-use Rattle.adapter.specs.declared.verdict.Verdict.{Verdict}
-use Rattle.adapter.specs.declared.verdict.Fate.{Fate}
-use Rattle.adapter.specs.declared.verdict.Fate.TheVariants as fates
+use Rattle.flow_actions.specs.declared.verdict.Verdict.{Verdict}
+use Rattle.flow_actions.specs.declared.verdict.Fate.{Fate}
+use Rattle.flow_actions.specs.declared.verdict.Fate.TheVariants as fates
 
 -- the last hexadecimal digit of a number, in lower case
 abbrev pub last_digit : ℕ → ℕ

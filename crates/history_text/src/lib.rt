@@ -19,6 +19,7 @@
 // One file prints one part of a line, and the definition of that part has its name:
 // - `caller`: the shell, an agent or a worker (`specs/Callers.antt`),
 // - `cause`: the table of error types, their causes and texts, and a refusal (`specs/Causes.antt`),
+// - `row`: a list of rules, a line each (`specs/Rows.antt`),
 // - `totals`, `reply`, `verdict` (`specs/Totals.antt`, `specs/Replies.antt`, `specs/Verdicts.antt`),
 // - `transcript`: an entry's line, and the whole (`specs/Text.antt`).
 //
@@ -29,6 +30,7 @@ mod caller;
 mod cause;
 mod ending;
 mod reply;
+mod row;
 mod totals;
 mod transcript;
 mod verdict;

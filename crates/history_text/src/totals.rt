@@ -4,7 +4,8 @@ ghost use Rattle.io_edges.specs.Gather.{gather_of};
 ghost use Rattle.io_edges.specs.Prints.{Prints};
 ghost use Rattle.history_text.specs.Totals.{totals_text};
 
-use adapter::{Limits, Totals};
+use adapter::Totals;
+use flow_rules::Limits;
 use io_edges::{Page, Sink, print, print_number, print_numbers};
 
 pub(crate) fn print_totals<K: Sink>(sink: &mut K, page: &mut Page, limits: Limits, totals: &Totals)

@@ -14,7 +14,8 @@ use crate::ending::Ending;
 use crate::reply::print_reply;
 use crate::totals::print_totals;
 use crate::verdict::print_verdict;
-use adapter::{Adapter, EntryView, Limits};
+use adapter::{Adapter, EntryView};
+use flow_rules::Limits;
 use io_edges::{Page, Sink, WriteFault, finish, print, print_number};
 
 /// Writes the transcript of the adapter's history, and how the capture ended.

@@ -4,7 +4,7 @@ ghost use Rattle.io_edges.specs.Gather.{gather_of};
 ghost use Rattle.io_edges.specs.Prints.{Prints};
 ghost use Rattle.history_text.specs.Verdicts.{last_digit, hexadecimal, fate_text, mark_text, hash_text, path_text, verdict_text};
 
-use adapter::{Fate, Verdict};
+use flow_actions::{Fate, Verdict};
 use io_edges::{Page, Sink, print, print_number, print_numbers};
 
 /// The last hexadecimal digit of a number, in lower case.

@@ -1,6 +1,6 @@
 -- The serial history is legal.
 use Rattle.std.proofs.Common.{ℕ, ◌+◌, List, [], ◌∷◌, ◌++◌, length, refl, sym, append_assoc, append-nil, subst}
-use Rattle.adapter.specs.declared.limits.Limits.{Limits}
+use Rattle.flow_rules.specs.declared.limits.Limits.{Limits}
 use Rattle.adapter.specs.declared.call.Call.{Call}
 use Rattle.adapter.specs.Entry.{Entry}
 use Rattle.adapter.specs.History.{IsLegal, IsLegalBehind, asked_by, passed_by}

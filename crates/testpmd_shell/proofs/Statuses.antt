@@ -6,7 +6,7 @@ use Rattle.io_edges.specs.ShelfState.{ShelfState}
 use Rattle.io_edges.specs.Front.{TakesFront}
 use Rattle.adapter.specs.Entry.{Entry}
 use Rattle.adapter.specs.Seen.{Seen}
-use Rattle.adapter.specs.declared.limits.Limits.{Limits}
+use Rattle.flow_rules.specs.declared.limits.Limits.{Limits}
 use Rattle.flow_grammar.specs.Program.{program_of}
 use Rattle.history_text.specs.declared.ending.Ending.TheVariants as endings
 use Rattle.history_text.specs.Text.{text_of}

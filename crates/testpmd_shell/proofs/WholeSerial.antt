@@ -4,7 +4,7 @@ use Rattle.std.specs.List.{All, range_with_len}
 use Rattle.std.specs.List.Sorted.{IsStrictlyIncreasing}
 use Rattle.std.proofs.lemmas.List.Elements.{All-cons, All-nil}
 use Rattle.std.proofs.lemmas.List.FromFn.{length-range_with_len, get_or-range_with_len}
-use Rattle.adapter.specs.declared.limits.Limits.{Limits}
+use Rattle.flow_rules.specs.declared.limits.Limits.{Limits}
 use Rattle.adapter.specs.declared.call.Call.{Call}
 use Rattle.adapter.specs.Entry.{Entry, Asked, Passed}
 use Rattle.adapter.specs.History.{asked_by, passed_by}

@@ -1,16 +1,17 @@
 -- What a session owes: the history that its files make, and the status where no call fails.
-use Rattle.std.specs.Prelude.{ℕ, nat_lt, Bool, true, false, not, ◌&&◌, List, [], length, Option, None, Some, if◌then◌else◌}
+use Rattle.std.specs.Prelude.{ℕ, nat_lt, Bool, true, false, not, ◌&&◌, ◌||◌, List, [], length, Option, None, Some, if◌then◌else◌}
 use Rattle.std.specs.Option.{option_map}
 use Rattle.capture_files.specs.declared.stop.Stop.{Stop}
 use Rattle.capture_files.specs.declared.stop.Stop.TheVariants as stops
 use Rattle.capture_files.specs.Capture.{capture}
-use Rattle.adapter.specs.declared.limits.Limits.{Limits}
+use Rattle.flow_rules.specs.declared.limits.Limits.{Limits}
 use Rattle.adapter.specs.Entry.{Entry}
 use Rattle.flow_grammar.specs.Program.{program_of}
+use Rattle.flow_grammar.specs.Limits.{is_too_large}
 use Rattle.flow_grammar.specs.Reach.{program_asks_stop}
 use Rattle.testpmd_shell.specs.declared.status.Status.{Status}
 use Rattle.testpmd_shell.specs.declared.status.Status.TheVariants as status
-use Rattle.testpmd_shell.specs.declared.TheConstants.{MAX_SCRIPT, FLOW_MAX}
+use Rattle.testpmd_shell.specs.declared.TheConstants.{MAX_SCRIPT}
 use Rattle.testpmd_shell.specs.Options.{Given}
 use Rattle.testpmd_shell.specs.Feed.{Rest, rest_in}
 use Rattle.testpmd_shell.specs.Serial.{serial}
@@ -35,7 +36,7 @@ abbrev pub files_of : Given → (List ℕ → Option (List ℕ)) → Option File
 files_of given contents = files_by (contents given.script) (capture_of given.capture contents)
 
 abbrev pub limits_of : Given → Limits
-limits_of given = record { rxq = given.rxq; flow_max = FLOW_MAX }
+limits_of given = record { rxq = given.rxq; flow_max = given.flow_max }
 
 -- the history that the session prints
 abbrev pub history_of : Given → Files → List Entry
@@ -46,9 +47,13 @@ is_end stops.End = true
 is_end (stops.Bad place kind) = false
 is_end (stops.Large place) = false
 
--- the status where no call fails and memory is there: the script is within its limit, and no phase asks for another
+-- the script has too many bytes, lines or calls
+unfoldable pub is_over : List ℕ → Bool
+is_over script = nat_lt MAX_SCRIPT (length script) || is_too_large script
+
+-- the status where no call fails and memory is there: the script is within its limits, and no phase asks for another
 -- stop than the capture's end
 abbrev pub due_status : Files → Status
-due_status files = if nat_lt MAX_SCRIPT (length files.script) then status.TooLarge
+due_status files = if is_over files.script then status.TooLarge
     else if program_asks_stop (program_of files.script) files.capture.frames && not (is_end files.capture.stop) then status.BadCapture
     else status.Done

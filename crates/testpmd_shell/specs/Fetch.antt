@@ -1,16 +1,24 @@
 -- What opening and reading the files says where it stops.
-use Rattle.std.specs.Prelude.{◌≡◌, ℕ, ◌<◌, List, length, Option, IfSome}
+use Rattle.std.specs.Prelude.{◌≡◌, ℕ, ◌<◌, true, List, length, Option, IfSome}
 use Rattle.io_edges.specs.ShelfState.{ShelfState}
 use Rattle.testpmd_shell.specs.declared.TheConstants.{MAX_SCRIPT}
 use Rattle.testpmd_shell.specs.declared.fetch.Stopped.{Stopped}
 use Rattle.testpmd_shell.specs.declared.fetch.Stopped.TheVariants as stopped
+use Rattle.testpmd_shell.specs.Due.{is_over}
 
--- why the script wasn't read, by the bytes of its name and the counts of read faults
-abbrev pub IsScriptStop : Option (List ℕ) → ℕ → ℕ → Stopped → Type 0
-IsScriptStop content before now stopped.ReadFault = before < now
-IsScriptStop content before now stopped.BadCapture = ⊥
-IsScriptStop content before now stopped.TooLarge = (now ≡ before) × IfSome content (λ bytes. MAX_SCRIPT < length bytes)
-IsScriptStop content before now stopped.NoMemory = now ≡ before
+-- why the script wasn't read, by what is too large, by the bytes of its name, and by the counts of read faults
+abbrev pub IsScriptStop : (List ℕ → Type 0) → Option (List ℕ) → ℕ → ℕ → Stopped → Type 0
+IsScriptStop IsLarge content before now stopped.ReadFault = before < now
+IsScriptStop IsLarge content before now stopped.BadCapture = ⊥
+IsScriptStop IsLarge content before now stopped.TooLarge = (now ≡ before) × IfSome content IsLarge
+IsScriptStop IsLarge content before now stopped.NoMemory = now ≡ before
+
+-- more bytes than a script may have, and more bytes, lines or calls
+abbrev pub IsLong : List ℕ → Type 0
+IsLong script = MAX_SCRIPT < length script
+
+abbrev pub IsOver : List ℕ → Type 0
+IsOver script = is_over script ≡ true
 
 -- why the capture wasn't opened
 abbrev pub IsOpeningStop : ℕ → ℕ → Stopped → Type 0

@@ -1,6 +1,6 @@
 -- The serial history: the sections and phases in order, in each phase the shell's calls and then the frames by worker 0.
 use Rattle.std.specs.Prelude.{ℕ, ◌+◌, List, [], ◌∷◌, ◌++◌, length}
-use Rattle.adapter.specs.declared.limits.Limits.{Limits}
+use Rattle.flow_rules.specs.declared.limits.Limits.{Limits}
 use Rattle.adapter.specs.declared.caller.Caller.{Caller}
 use Rattle.adapter.specs.declared.call.Call.{Call}
 use Rattle.adapter.specs.Entry.{Entry}

@@ -1,5 +1,5 @@
 -- What a session says: each status with its cause, and what was written.
-use Rattle.std.specs.Prelude.{◌≡◌, ℕ, ◌-◌, ◌^◌, ◌<◌, false, List, Option, None, Some, IfSome, IsTrue, ⊤, ◌⊎◌, ◌≤◌, length}
+use Rattle.std.specs.Prelude.{◌≡◌, ℕ, ◌-◌, ◌^◌, ◌<◌, true, false, List, Option, None, Some, IfSome, IsTrue, ⊤, ◌⊎◌}
 use Rattle.std.specs.Io.KnownBytes.{Appends}
 use Rattle.io_edges.specs.declared.shelf.Slot.TheVariants as slots
 use Rattle.io_edges.specs.ShelfState.{ShelfState, read_faults}
@@ -10,13 +10,12 @@ use Rattle.flow_grammar.specs.Reach.{has_phase}
 use Rattle.flow_grammar.specs.Whole.{IsWhole}
 use Rattle.history_text.specs.declared.ending.Ending.TheVariants as endings
 use Rattle.history_text.specs.Text.{text_of}
-use Rattle.testpmd_shell.specs.declared.TheConstants.{MAX_SCRIPT}
 use Rattle.testpmd_shell.specs.declared.status.Status.{Status}
 use Rattle.testpmd_shell.specs.declared.status.Status.TheVariants as status
 use Rattle.testpmd_shell.specs.declared.fetch.Stopped.{Stopped}
 use Rattle.testpmd_shell.specs.declared.fetch.Stopped.TheVariants as stopped
 use Rattle.testpmd_shell.specs.Options.{Given}
-use Rattle.testpmd_shell.specs.Due.{Files, files_of, limits_of, history_of, due_status}
+use Rattle.testpmd_shell.specs.Due.{Files, files_of, limits_of, history_of, is_over, due_status}
 
 -- Nothing was asked for on the shelf, and no count of its faults stands at its last value.
 pub record IsFresh (state : ShelfState) : Type 0 where
@@ -81,12 +80,12 @@ abbrev pub IsReadByPhases : Option Given → ShelfState → ShelfState → Type 
 IsReadByPhases None s t = ⊤
 IsReadByPhases (Some given) s t = IfSome (s.contents given.script) (λ script. has_phase (program_of script) ≡ false → t.capture.faults ≡ s.capture.faults)
 
--- The script's size decides by itself: it is over its limit at TooLarge, and within it where the run came behind it.
+-- The script's size decides by itself: it is over its limits at TooLarge, and within them where the run came behind it.
 abbrev pub SizeTells : List ℕ → Status → Type 0
-SizeTells script status.TooLarge = MAX_SCRIPT < length script
-SizeTells script status.Done = length script ≤ MAX_SCRIPT
-SizeTells script status.WriteFault = length script ≤ MAX_SCRIPT
-SizeTells script status.BadCapture = length script ≤ MAX_SCRIPT
+SizeTells script status.TooLarge = is_over script ≡ true
+SizeTells script status.Done = is_over script ≡ false
+SizeTells script status.WriteFault = is_over script ≡ false
+SizeTells script status.BadCapture = is_over script ≡ false
 SizeTells script status.Usage = ⊤
 SizeTells script status.ReadFault = ⊤
 SizeTells script status.NoMemory = ⊤
@@ -96,7 +95,7 @@ IsSizedBy None s answer = ⊤
 IsSizedBy (Some given) s answer = IfSome (s.contents given.script) (λ script. SizeTells script answer)
 
 abbrev pub StopSizeTells : List ℕ → Stopped → Type 0
-StopSizeTells script stopped.TooLarge = MAX_SCRIPT < length script
-StopSizeTells script stopped.BadCapture = length script ≤ MAX_SCRIPT
+StopSizeTells script stopped.TooLarge = is_over script ≡ true
+StopSizeTells script stopped.BadCapture = is_over script ≡ false
 StopSizeTells script stopped.ReadFault = ⊤
 StopSizeTells script stopped.NoMemory = ⊤

@@ -3,18 +3,21 @@ ghost use Rattle.std.specs.Prelude.{◌≡◌, ◌≤◌, ◌<◌, ◌-◌, ◌^
 ghost use Rattle.io_edges.specs.ShelfState.{read_faults};
 ghost use Rattle.testpmd_shell.specs.Options.{given_of};
 ghost use Rattle.testpmd_shell.specs.Session.{IsFresh, Allows, AllowsCapture, IsStoppedBy, IsReadByPhases, StopSizeTells};
-ghost use Rattle.testpmd_shell.specs.Fetch.{IsScriptStop, IsOpeningStop, OthersThanScript};
+ghost use Rattle.testpmd_shell.specs.Fetch.{IsScriptStop, IsLong, IsOver, IsOpeningStop, OthersThanScript};
 ghost use Rattle.testpmd_shell.specs.Run.{due_in, number_in, IsOpen, IsTold};
-ghost use Rattle.testpmd_shell.specs.Due.{capture_of, files_of, limits_of, history_of, due_status};
+ghost use Rattle.testpmd_shell.specs.Due.{capture_of, files_of, limits_of, history_of, is_over, due_status};
+ghost use Rattle.adapter.specs.Sound.{AreLimits};
+ghost use Rattle.flow_grammar.specs.Program.{program_of};
 
+use crate::MAX_SCRIPT;
 use crate::feed::{Feed, Halt};
 use crate::options::Options;
 use crate::run::run;
 use crate::status::Status;
-use crate::{FLOW_MAX, MAX_SCRIPT};
-use adapter::{Adapter, Limits};
+use adapter::Adapter;
 use capture_files::{CaptureReader, MAX_FRAME_LEN};
-use flow_grammar::program;
+use flow_grammar::{Program, ProgramFault, program};
+use flow_rules::Limits;
 use io_edges::{ReadAll, Shelf, Slot, SlotSource, read_all};
 use std::alloc::{AllocError, Global};
 
@@ -45,7 +48,7 @@ fn read_script<S: Shelf>(alloc: Global, shelf: &mut S, name: &str) -> Result<Vec
     ensures within { IfOk result (λ script. length script.items ≤ MAX_SCRIPT) }
     ensures calm { OnOk result (read_faults (S.state shelf.new) ≡ read_faults (S.state shelf.old)) }
     ensures openings { OnOk result ((S.state shelf.new).open_faults ≡ (S.state shelf.old).open_faults) }
-    ensures stopped { IfErr result (IsScriptStop ((S.state shelf.old).contents name.now) (read_faults (S.state shelf.old)) (read_faults (S.state shelf.new))) }
+    ensures stopped { IfErr result (IsScriptStop IsLong ((S.state shelf.old).contents name.now) (read_faults (S.state shelf.old)) (read_faults (S.state shelf.new))) }
     ensures others { OthersThanScript (S.state shelf.old) (S.state shelf.new) }
 {
     let Ok(()) = shelf.open_read(Slot::Script, name) else {
@@ -57,6 +60,28 @@ fn read_script<S: Shelf>(alloc: Global, shelf: &mut S, name: &str) -> Result<Vec
         Err(ReadAll::ReadFault) => Err(Stopped::ReadFault),
         Err(ReadAll::TooLarge) => Err(Stopped::TooLarge),
         Err(ReadAll::NoMemory) => Err(Stopped::NoMemory),
+    }
+}
+
+/// The program of the script.
+fn read_program<S: Shelf>(alloc: Global, shelf: &mut S, name: &str) -> Result<Program, Stopped>
+    requires fresh { IsFresh (S.state shelf.old) }
+    requires allowed { IsTrue ((S.state shelf.old).allows_read Slot.Script name.now) }
+    ensures program { IfOk result (λ program. IfSome ((S.state shelf.old).contents name.now) (λ bytes. program ≡ program_of bytes)) }
+    ensures within { OnOk result (IfSome ((S.state shelf.old).contents name.now) (λ bytes. is_over bytes ≡ false)) }
+    ensures calm { OnOk result (read_faults (S.state shelf.new) ≡ read_faults (S.state shelf.old)) }
+    ensures openings { OnOk result ((S.state shelf.new).open_faults ≡ (S.state shelf.old).open_faults) }
+    ensures stopped { IfErr result (IsScriptStop IsOver ((S.state shelf.old).contents name.now) (read_faults (S.state shelf.old)) (read_faults (S.state shelf.new))) }
+    ensures others { OthersThanScript (S.state shelf.old) (S.state shelf.new) }
+{
+    let script = match read_script(alloc, shelf, name) {
+        Ok(script) => script,
+        Err(why) => return Err(why),
+    };
+    match program(alloc, &script) {
+        Ok(program) => Ok(program),
+        Err(ProgramFault::TooLarge) => Err(Stopped::TooLarge),
+        Err(ProgramFault::NoMemory) => Err(Stopped::NoMemory),
     }
 }
 
@@ -99,22 +124,21 @@ pub(crate) fn fetch<S: Shelf>(
 ) -> Result<Adapter, Stopped>
     requires fresh { IsFresh (S.state shelf.old) }
     requires allowed { Allows (Some (given_of options.now)) (S.state shelf.old) }
-    requires queues { (1 ≤ options.now.rxq) × (options.now.rxq ≤ 16) }
+    requires limits { AreLimits (limits_of (given_of options.now)) }
     ensures limits { IfOk result (λ adapter. adapter.limits ≡ limits_of (given_of options.now)) }
     ensures history { IfOk result (λ adapter. IfSome (files_of (given_of options.now) (S.state shelf.old).contents)
         (λ files. (adapter.history ≡ history_of (given_of options.now) files) × (due_status files ≡ Status.Done))) }
     ensures calm { OnOk result (read_faults (S.state shelf.new) ≡ read_faults (S.state shelf.old)) }
     ensures stopped { IfErr result (IsStoppedBy (files_of (given_of options.now) (S.state shelf.old).contents) (S.state shelf.old) (S.state shelf.new)) }
     ensures reads { IsReadByPhases (Some (given_of options.now)) (S.state shelf.old) (S.state shelf.new) }
-    ensures within { OnOk result (IfSome ((S.state shelf.old).contents options.now.script.now) (λ script. length script ≤ MAX_SCRIPT)) }
+    ensures within { OnOk result (IfSome ((S.state shelf.old).contents options.now.script.now) (λ script. is_over script ≡ false)) }
     ensures size { IfErr result (λ why. IfSome ((S.state shelf.old).contents options.now.script.now) (λ script. StopSizeTells script why)) }
 {
-    let script = read_script(alloc, shelf, options.script)?;
+    let program = read_program(alloc, shelf, options.script)?;
     let mut feed = open_capture(alloc, shelf, options.capture)?;
-    let program = program(alloc, &script)?;
     let limits = Limits {
         rxq: options.rxq,
-        flow_max: FLOW_MAX,
+        flow_max: options.flow_max,
     };
     let mut adapter = Adapter::new(alloc, limits)?;
     match run(&mut adapter, program.as_slice(), shelf, &mut feed) {

@@ -22,9 +22,7 @@
 // The order is: words; opening and reading the script; its size; opening the capture; the run; the transcript. What stops
 // earlier has written nothing. A capture that no phase reads is never bad.
 //
-// Not done here: threads (`session` runs the serial order and leaves `rt` and `gate` unused), `forward`, `quit`, the
-// transmit file, and every command but `flow create 0 ingress pattern eth / end actions queue index N / end`, `start` and
-// `stop`.
+// Not done here: threads (`session` runs the serial order and leaves `rt` and `gate` unused) and the transmit file.
 #![tactic(auto)]
 
 mod ask;
@@ -41,6 +39,3 @@ pub use status::Status;
 
 /// The most bytes of a script.
 pub const MAX_SCRIPT: usize = 1_048_576;
-
-/// The most rules in effect.
-pub const FLOW_MAX: u32 = 4096;

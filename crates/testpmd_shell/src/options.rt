@@ -8,4 +8,6 @@ pub(crate) struct Options<'a> {
     pub(crate) capture: Option<&'a str>,
     /// The number of Rx queues.
     pub(crate) rxq: u8,
+    /// How many rules may be in effect.
+    pub(crate) flow_max: u32,
 }

@@ -2,7 +2,8 @@
 ghost use Rattle.std.specs.Prelude.{◌≡◌, ◌≤◌, ◌<◌, ◌-◌, ◌^◌, ◌↔◌, map, None, Some, is_some};
 ghost use Rattle.testpmd_shell.specs.Options.{options_of, given_of};
 ghost use Rattle.testpmd_shell.specs.Session.{IsFresh, Allows, Says, SaysAll, Completes, CompletesAll, IsReadByPhases, IsSizedBy};
-ghost use Rattle.testpmd_shell.specs.Due.{files_of};
+ghost use Rattle.testpmd_shell.specs.Due.{files_of, limits_of};
+ghost use Rattle.adapter.specs.Sound.{AreLimits};
 
 use crate::fetch::{Stopped, fetch};
 use crate::options::Options;
@@ -87,7 +88,7 @@ fn answer<S: Shelf, K: Sink>(
     requires fresh { IsFresh (S.state shelf.old) }
     requires sink { K.faults out.old < 2 ^ 64 - 1 }
     requires allowed { Allows (Some (given_of options.now)) (S.state shelf.old) }
-    requires queues { (1 ≤ options.now.rxq) × (options.now.rxq ≤ 16) }
+    requires limits { AreLimits (limits_of (given_of options.now)) }
     ensures says { Says (given_of options.now) (files_of (given_of options.now) (S.state shelf.old).contents) (S.state shelf.old) (S.state shelf.new)
         (K.taken out.old) (K.taken out.new) (K.faults out.old) (K.faults out.new) result }
     ensures reads { IsReadByPhases (Some (given_of options.now)) (S.state shelf.old) (S.state shelf.new) }

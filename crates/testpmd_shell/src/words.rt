@@ -2,7 +2,9 @@
 ghost use Rattle.std.specs.Prelude.{◌≡◌, ◌≤◌, ◌<◌, ◌^◌, min, map, option_copied, IfSome};
 ghost use Rattle.std.specs.Option.{option_map};
 ghost use Rattle.std.specs.List.{list_all};
-ghost use Rattle.testpmd_shell.specs.Options.{value_of, values_of, at_most_one, is_known, is_digit, digits_value, is_number, queues_of, options_of, given_of};
+ghost use Rattle.testpmd_shell.specs.Options.{value_of, values_of, at_most_one, is_known, is_digit, digits_value, is_number, number_or, queues_of, flow_max_of, options_of, given_of};
+ghost use Rattle.adapter.specs.Sound.{AreLimits};
+ghost use Rattle.testpmd_shell.specs.Due.{limits_of};
 
 use crate::options::Options;
 
@@ -12,8 +14,15 @@ const CAPTURE: &str = "--rx-pcap=";
 
 const QUEUES: &str = "--rxq=";
 
-/// One more than the most Rx queues.
-const TOO_MANY_QUEUES: u32 = 17;
+const RULES: &str = "--flow-max=";
+
+/// The most Rx queues.
+const MOST_QUEUES: u32 = 16;
+
+/// The most rules that may be in effect, and how many may be where the words don't say.
+const MOST_RULES: u32 = 65_536;
+
+const USUAL_RULES: u32 = 4_096;
 
 /// What a word gives under a key.
 fn value<'a>(word: &'a str, key: &str) -> Option<&'a str>
@@ -22,7 +31,7 @@ fn value<'a>(word: &'a str, key: &str) -> Option<&'a str>
     word.strip_prefix(key)
 }
 
-/// Whether a word is one of the three.
+/// Whether a word is one of the four.
 fn known(word: &str) -> bool
     ensures { result ≡ is_known word.now }
 {
@@ -32,7 +41,10 @@ fn known(word: &str) -> bool
     if value(word, CAPTURE).is_some() {
         return true;
     }
-    value(word, QUEUES).is_some()
+    if value(word, QUEUES).is_some() {
+        return true;
+    }
+    value(word, RULES).is_some()
 }
 
 /// Whether all words are.
@@ -77,7 +89,7 @@ fn capped_value(digits: &[u8], limit: u32) -> u32
 }
 
 /// Whether a text is a number: one to six decimal digits.
-fn number(text: &[u8]) -> bool
+fn is_number(text: &[u8]) -> bool
     ensures { result ≡ is_number text.now }
 {
     if text.is_empty() {
@@ -103,31 +115,50 @@ fn all_digits(text: &[u8]) -> bool
     true
 }
 
+/// The number from 1 to `most` that is given, or another where none is.
+fn number_or(other: u32, most: u32, text: Option<&str>) -> Option<u32>
+    requires other { (1 ≤ other) × (other ≤ most) }
+    requires most { most < 2 ^ 20 }
+    ensures number { result ≡ number_or other most (option_copied text.entry) }
+    ensures range { IfSome result (λ n. (1 ≤ n) × (n ≤ most)) }
+{
+    let Some(text) = text else {
+        return Some(other);
+    };
+    if !is_number(text.as_bytes()) {
+        return None;
+    }
+    let number = capped_value(text.as_bytes(), most + 1);
+    if number == 0 {
+        return None;
+    }
+    if number > most {
+        return None;
+    }
+    Some(number)
+}
+
 /// The number of Rx queues.
 fn queues(text: Option<&str>) -> Option<u8>
     ensures number { result ≡ queues_of (option_copied text.entry) }
     ensures range { IfSome result (λ rxq. (1 ≤ rxq) × (rxq ≤ 16)) }
 {
-    let Some(text) = text else {
-        return Some(1);
-    };
-    if !number(text.as_bytes()) {
-        return None;
-    }
-    let queues = capped_value(text.as_bytes(), TOO_MANY_QUEUES);
-    if queues == 0 {
-        return None;
-    }
-    if queues >= TOO_MANY_QUEUES {
-        return None;
-    }
-    Some(queues as u8)
+    let number = number_or(1, MOST_QUEUES, text)?;
+    Some(number as u8)
+}
+
+/// How many rules may be in effect.
+fn rules(text: Option<&str>) -> Option<u32>
+    ensures number { result ≡ flow_max_of (option_copied text.entry) }
+    ensures range { IfSome result (λ n. (1 ≤ n) × (n ≤ 65536)) }
+{
+    number_or(USUAL_RULES, MOST_RULES, text)
 }
 
 /// The options that the words give, if they give any.
 pub(crate) fn options<'a>(words: &[&'a str]) -> Option<Options<'a>>
     ensures options { option_map given_of result ≡ options_of (map (λ w. w.now) words.now) }
-    ensures queues { IfSome result (λ options. (1 ≤ options.rxq) × (options.rxq ≤ 16)) }
+    ensures limits { IfSome result (λ options. AreLimits (limits_of (given_of options))) }
 {
     if !all_known(words) {
         return None;
@@ -137,9 +168,12 @@ pub(crate) fn options<'a>(words: &[&'a str]) -> Option<Options<'a>>
     let capture = value_among(words, CAPTURE)?;
     let rxq = value_among(words, QUEUES)?;
     let rxq = queues(rxq)?;
+    let flow_max = value_among(words, RULES)?;
+    let flow_max = rules(flow_max)?;
     Some(Options {
         script,
         capture,
         rxq,
+        flow_max,
     })
 }

@@ -1,141 +1,325 @@
-use super::*;
+mod items;
+mod relations;
+
+use crate::shown::{each_says, shown};
 use std::test::Fail;
 
-/// What a row of a table expects of a line.
-#[derive(Clone, Copy, Debug, PartialEq)]
-enum Want {
-    Create(u16),
-    Start,
-    Stop,
-    Blank,
-    BadArguments,
-    /// What no line of these tables says.
-    Other,
-}
-
-fn want_of(line: &Line) -> Want {
-    match line {
-        Line::Calls(ops) => {
-            if ops.len() != 1 {
-                return Want::Other;
-            }
-            match ops.get(0) {
-                Op::Create(rule) => Want::Create(rule.queue),
-                _ => Want::Other,
-            }
-        }
-        Line::Start(None) => Want::Start,
-        Line::Stop => Want::Stop,
-        Line::Blank => Want::Blank,
-        Line::Bad(BadKind::Arguments) => Want::BadArguments,
-        _ => Want::Other,
-    }
-}
+static EACH_LINE_SAYS_ONE_THING: [(&[u8], &str); 30] = [
+    (b"", "blank"),
+    (b" \t ", "blank"),
+    (b"# start", "blank"),
+    (b"\t#\x80\xff", "blank"),
+    (b"#", "blank"),
+    (b"start", "start"),
+    (b"\tstart \t", "start"),
+    (b"start # over all frames", "start"),
+    (b"start #\x07", "start"),
+    (b"stop", "stop"),
+    (b"quit", "quit"),
+    (b" quit\t# the end", "quit"),
+    (b"stop#", "bad"),
+    (b"stop stop", "bad"),
+    (b"quit 0", "bad"),
+    (b"start 1", "bad"),
+    (b"start forward", "bad"),
+    (b"Start", "bad"),
+    (b"QUIT", "bad"),
+    (b"star", "bad"),
+    (b"starts", "bad"),
+    (b"start\r", "bad"),
+    (b"start\x7f", "bad"),
+    (b"start\x0b", "bad"),
+    (b"\x80 # start", "bad"),
+    (b"start \x00", "bad"),
+    (b"\x1f", "bad"),
+    (b"start\nstop", "bad"),
+    (b"forward", "bad"),
+    (b"help", "bad"),
+];
 
 #[test]
 fn each_line_says_one_thing(rt: HostRuntime) -> Result<(), Fail> {
-    let rows: [(&[u8], Want); 30] = [
-        (b"", Want::Blank),
-        (b" \t ", Want::Blank),
-        (b"# start", Want::Blank),
-        (b"\t#\x80\xff", Want::Blank),
-        (b"start", Want::Start),
-        (b"\tstart \t", Want::Start),
-        (b"start # over all frames", Want::Start),
-        (b"start #\x07", Want::Start),
-        (b"stop", Want::Stop),
-        (b"stop#", Want::BadArguments),
-        (b"stop stop", Want::BadArguments),
-        (b"start 1", Want::BadArguments),
-        (b"Start", Want::BadArguments),
-        (b"star", Want::BadArguments),
-        (b"starts", Want::BadArguments),
-        (b"start\r", Want::BadArguments),
-        (b"start\x7f", Want::BadArguments),
-        (b"\x80 # start", Want::BadArguments),
-        (b"start \x00", Want::BadArguments),
-        (b"start\nstop", Want::BadArguments),
-        (b"quit", Want::BadArguments),
-        (b"forward 1", Want::BadArguments),
-        (
-            b"flow create 0 ingress pattern eth / end actions queue index 3 / end",
-            Want::Create(3),
-        ),
-        (
-            b"flow\tcreate  0 ingress pattern eth / end actions queue index 3 / end#",
-            Want::BadArguments,
-        ),
-        (
-            b"  flow create\t0 ingress pattern eth / end actions queue index 3 / end # 3",
-            Want::Create(3),
-        ),
-        (
-            b"flow create 1 ingress pattern eth / end actions queue index 3 / end",
-            Want::BadArguments,
-        ),
-        (
-            b"flow create 0 ingress pattern eth / end actions queue index 3 / end end",
-            Want::BadArguments,
-        ),
-        (
-            b"flow create 0 ingress pattern eth / end actions queue index 3 /",
-            Want::BadArguments,
-        ),
-        (
-            b"flow create 0 ingress pattern eth / end actions queue index / end",
-            Want::BadArguments,
-        ),
-        (
-            b"flow create 0 ingress pattern eth /end actions queue index 3 / end",
-            Want::BadArguments,
-        ),
-    ];
-    for (line, want) in rows {
-        let said = read_line(rt.alloc(), line)?;
-        assert_eq!(rt; want_of(&said), want, "at {line:?}");
-    }
-    Ok(())
+    each_says(&rt, rt.alloc(), &EACH_LINE_SAYS_ONE_THING)
 }
+
+static FORWARD_COUNTS_1_TO_1048576_FRAMES: [(&[u8], &str); 14] = [
+    (b"forward 1", "start 1"),
+    (b"forward 0x1 # one", "start 1"),
+    (b"\tforward\t10\t", "start 10"),
+    (b"forward 1048575", "start 1048575"),
+    (b"forward 1048576", "start 1048576"),
+    (b"forward 0x100000", "start 1048576"),
+    (b"forward 1048577", "bad"),
+    (b"forward 0x100001", "bad"),
+    (b"forward 4294967297", "bad"),
+    (b"forward 0", "bad"),
+    (b"forward 01", "bad"),
+    (b"forward -1", "bad"),
+    (b"forward 1 1", "bad"),
+    (b"forward all", "bad"),
+];
+
+#[test]
+fn forward_counts_1_to_1048576_frames(rt: HostRuntime) -> Result<(), Fail> {
+    each_says(&rt, rt.alloc(), &FORWARD_COUNTS_1_TO_1048576_FRAMES)
+}
+
+static A_CREATE_HAS_ITS_WORDS_IN_ORDER: [(&[u8], &str); 24] = [
+    (
+        b"flow create 0 ingress pattern end actions queue index 3 / end",
+        "create 3",
+    ),
+    (
+        b"flow create 0 ingress pattern eth / end actions queue index 3 / end",
+        "create 3, eth",
+    ),
+    (
+        b"  flow create\t0 ingress pattern eth / end actions queue index 3 / end # 3",
+        "create 3, eth",
+    ),
+    (b"flow crate 0", "bad"),
+    (b"flow", "bad"),
+    (b"flow create", "bad"),
+    (b"flow create 0", "bad"),
+    (b"flow create 0 ingress", "bad"),
+    (
+        b"create 0 ingress pattern eth / end actions queue index 3 / end",
+        "bad",
+    ),
+    (
+        b"flow create ingress pattern eth / end actions queue index 3 / end",
+        "bad",
+    ),
+    (
+        b"flow create 0 pattern eth / end actions queue index 3 / end",
+        "create 3 no-ingress, eth",
+    ),
+    (
+        b"flow create 0 ingress ingress pattern eth / end actions queue index 3 / end",
+        "create 3, eth",
+    ),
+    (
+        b"flow create 0 egress pattern eth / end actions queue index 3 / end",
+        "create 3 no-ingress egress, eth",
+    ),
+    (
+        b"flow create 0 ingress eth / end actions queue index 3 / end",
+        "bad",
+    ),
+    (
+        b"flow create 0 ingress pattern eth / end queue index 3 / end",
+        "bad",
+    ),
+    (
+        b"flow create 0 ingress pattern eth / end actions queue 3 / end",
+        "bad",
+    ),
+    (
+        b"flow create 0 ingress pattern eth / end actions queue index / end",
+        "bad",
+    ),
+    (
+        b"flow create 0 ingress pattern eth / end actions queue index 3 end",
+        "bad",
+    ),
+    (
+        b"flow create 0 ingress pattern eth / end actions queue index 3 /",
+        "bad",
+    ),
+    (
+        b"flow create 0 ingress pattern eth / end actions queue index 3 / end end",
+        "bad",
+    ),
+    (
+        b"flow create 0 ingress pattern eth / end actions queue index 3 / queue index 4 / end",
+        "create 3 4, eth",
+    ),
+    (
+        b"flow create 0 ingress pattern eth / end actions drop / end",
+        "create drop, eth",
+    ),
+    (
+        b"flow create 0 ingress pattern eth / end actions queue index 3 / end#",
+        "bad",
+    ),
+    (
+        b"flow create 0 ingress pattern eth / end actions # queue index 3 / end",
+        "bad",
+    ),
+];
+
+#[test]
+fn a_create_has_its_words_in_order(rt: HostRuntime) -> Result<(), Fail> {
+    each_says(&rt, rt.alloc(), &A_CREATE_HAS_ITS_WORDS_IN_ORDER)
+}
+
+static ANOTHER_PORT_IS_TOLD_WHERE_THE_LINE_FITS: [(&[u8], &str); 14] = [
+    (
+        b"flow create 0 ingress pattern eth / end actions queue index 3 / end",
+        "create 3, eth",
+    ),
+    (
+        b"flow create 0x0 ingress pattern eth / end actions queue index 3 / end",
+        "create 3, eth",
+    ),
+    (
+        b"flow create 1 ingress pattern eth / end actions queue index 3 / end",
+        "port",
+    ),
+    (
+        b"flow create 0x01 ingress pattern eth / end actions queue index 3 / end",
+        "port",
+    ),
+    (
+        b"flow create 4294967295 ingress pattern eth / end actions queue index 3 / end",
+        "port",
+    ),
+    (
+        b"flow create 4294967296 ingress pattern eth / end actions queue index 3 / end",
+        "bad",
+    ),
+    (
+        b"flow create 0x100000000 ingress pattern eth / end actions queue index 3 / end",
+        "bad",
+    ),
+    (
+        b"flow create 00 ingress pattern eth / end actions queue index 3 / end",
+        "bad",
+    ),
+    (
+        b"flow create 01 ingress pattern eth / end actions queue index 3 / end",
+        "bad",
+    ),
+    (
+        b"flow create -1 ingress pattern eth / end actions queue index 3 / end",
+        "bad",
+    ),
+    (
+        b"flow create 1 ingress pattern eth / end actions queue index 65536 / end",
+        "bad",
+    ),
+    (
+        b"flow create 1 ingress pattern eth end actions queue index 3 / end",
+        "bad",
+    ),
+    (
+        b"flow create 1 ingress pattern udp dst is 65536 / end actions queue index 3 / end",
+        "bad",
+    ),
+    (b"flow create 1", "bad"),
+];
+
+#[test]
+fn another_port_is_told_where_the_line_fits(rt: HostRuntime) -> Result<(), Fail> {
+    each_says(&rt, rt.alloc(), &ANOTHER_PORT_IS_TOLD_WHERE_THE_LINE_FITS)
+}
+
+static QUEUES: [(&[u8], &str); 22] = [
+    (
+        b"flow create 0 ingress pattern end actions queue index 0 / end",
+        "create 0",
+    ),
+    (
+        b"flow create 0 ingress pattern end actions queue index 00 / end",
+        "bad",
+    ),
+    (
+        b"flow create 0 ingress pattern end actions queue index 01 / end",
+        "bad",
+    ),
+    (
+        b"flow create 0 ingress pattern end actions queue index 10 / end",
+        "create 10",
+    ),
+    (
+        b"flow create 0 ingress pattern end actions queue index 65535 / end",
+        "create 65535",
+    ),
+    (
+        b"flow create 0 ingress pattern end actions queue index 65536 / end",
+        "bad",
+    ),
+    (
+        b"flow create 0 ingress pattern end actions queue index 4294967296 / end",
+        "bad",
+    ),
+    (
+        b"flow create 0 ingress pattern end actions queue index 340282366920938463463374607431768211456 / end",
+        "bad",
+    ),
+    (
+        b"flow create 0 ingress pattern end actions queue index 0x0 / end",
+        "create 0",
+    ),
+    (
+        b"flow create 0 ingress pattern end actions queue index 0x10 / end",
+        "create 16",
+    ),
+    (
+        b"flow create 0 ingress pattern end actions queue index 0xffff / end",
+        "create 65535",
+    ),
+    (
+        b"flow create 0 ingress pattern end actions queue index 0xFFFF / end",
+        "create 65535",
+    ),
+    (
+        b"flow create 0 ingress pattern end actions queue index 0xaBcD / end",
+        "create 43981",
+    ),
+    (
+        b"flow create 0 ingress pattern end actions queue index 0x00000000000000000000000000000000000000001 / end",
+        "create 1",
+    ),
+    (
+        b"flow create 0 ingress pattern end actions queue index 0x10000 / end",
+        "bad",
+    ),
+    (
+        b"flow create 0 ingress pattern end actions queue index 0x / end",
+        "bad",
+    ),
+    (
+        b"flow create 0 ingress pattern end actions queue index 0xg / end",
+        "bad",
+    ),
+    (
+        b"flow create 0 ingress pattern end actions queue index 0X1 / end",
+        "bad",
+    ),
+    (
+        b"flow create 0 ingress pattern end actions queue index 1a / end",
+        "bad",
+    ),
+    (
+        b"flow create 0 ingress pattern end actions queue index a / end",
+        "bad",
+    ),
+    (
+        b"flow create 0 ingress pattern end actions queue index +1 / end",
+        "bad",
+    ),
+    (
+        b"flow create 0 ingress pattern end actions queue index 1_0 / end",
+        "bad",
+    ),
+];
 
 #[test]
 fn a_queue_is_a_number_of_16_bits(rt: HostRuntime) -> Result<(), Fail> {
-    let rows: [(&[u8], Want); 22] = [
-        (b"0", Want::Create(0)),
-        (b"00", Want::BadArguments),
-        (b"01", Want::BadArguments),
-        (b"10", Want::Create(10)),
-        (b"65535", Want::Create(65535)),
-        (b"65536", Want::BadArguments),
-        (b"4294967296", Want::BadArguments),
-        (
-            b"340282366920938463463374607431768211456",
-            Want::BadArguments,
-        ),
-        (b"0x0", Want::Create(0)),
-        (b"0x10", Want::Create(16)),
-        (b"0xffff", Want::Create(65535)),
-        (b"0xFFFF", Want::Create(65535)),
-        (b"0xaBcD", Want::Create(43981)),
-        (
-            b"0x00000000000000000000000000000000000000001",
-            Want::Create(1),
-        ),
-        (b"0x10000", Want::BadArguments),
-        (b"0x", Want::BadArguments),
-        (b"0xg", Want::BadArguments),
-        (b"0X1", Want::BadArguments),
-        (b"1a", Want::BadArguments),
-        (b"a", Want::BadArguments),
-        (b"+1", Want::BadArguments),
-        (b"-1", Want::BadArguments),
-    ];
-    for (number, want) in rows {
-        let mut line = Vec::new(rt.alloc());
-        line.extend_from_slice(b"flow create 0 ingress pattern eth / end actions queue index ")?;
-        line.extend_from_slice(number)?;
-        line.extend_from_slice(b" / end")?;
-        let said = read_line(rt.alloc(), &line)?;
-        assert_eq!(rt; want_of(&said), want, "at {number:?}");
-    }
+    each_says(&rt, rt.alloc(), &QUEUES)
+}
+
+#[test]
+fn one_word_may_be_as_long_as_a_script(rt: HostRuntime) -> Result<(), Fail> {
+    let word = vec![in rt.alloc(); b'x'; 1_048_575]?;
+    let found = shown(rt.alloc(), &word)?;
+    assert_eq!(rt; found.as_str(), "bad");
+    let mut line = Vec::new(rt.alloc());
+    line.extend_from_slice(b"forward 0x")?;
+    line.extend_from_slice(&vec![in rt.alloc(); b'0'; 1_048_564]?)?;
+    line.push(b'7')?;
+    let found = shown(rt.alloc(), &line)?;
+    assert_eq!(rt; found.as_str(), "start 7");
     Ok(())
 }

@@ -1,21 +1,17 @@
 use super::*;
 use crate::part::Part;
-use adapter::{BadKind, Call, Op};
+use crate::shown::show_op;
+use adapter::Call;
+use std::alloc::AllocError;
 use std::fmt::Write;
+use std::process::Abort;
 use std::test::Fail;
 
 fn show_call(out: &mut String, call: &Call) -> Result<(), AllocError> {
-    write!(out, " {}.{} ", call.at.line, call.at.part)?;
-    match call.op {
-        Op::Create(rule) => write!(out, "create {}", rule.queue),
-        Op::Start(None) => out.push_str("start"),
-        Op::Start(Some(count)) => write!(out, "start {count}"),
-        Op::Stop => out.push_str("stop"),
-        Op::Bad(BadKind::Arguments) => out.push_str("bad"),
-        Op::Bad(BadKind::Port) => out.push_str("port"),
-        Op::Bad(BadKind::NotStarted) => out.push_str("not-started"),
-        Op::Bad(BadKind::AlreadyStarted) => out.push_str("already-started"),
-    }
+    let line = call.at.line;
+    let part = call.at.part;
+    write!(out, " {line}.{part} ")?;
+    show_op(out, &call.op)
 }
 
 fn show_calls(out: &mut String, calls: &[Call]) -> Result<(), AllocError> {
@@ -25,78 +21,185 @@ fn show_calls(out: &mut String, calls: &[Call]) -> Result<(), AllocError> {
     Ok(())
 }
 
-fn show(alloc: Global, program: &Program) -> Result<String, AllocError> {
+fn show_part(out: &mut String, part: &Part) -> Result<(), AllocError> {
+    match part {
+        Part::Section(calls) => {
+            out.push_str("section")?;
+            show_calls(out, calls.as_slice())?;
+        }
+        Part::Phase {
+            opening,
+            count,
+            shell,
+            closing,
+        } => {
+            out.push_str(if count.is_some() { "some" } else { "phase" })?;
+            show_call(out, opening)?;
+            out.push_str(" (")?;
+            show_calls(out, shell.as_slice())?;
+            out.push_str(" )")?;
+            show_call(out, closing)?;
+        }
+    }
+    out.push_str(";")
+}
+
+/// The parts of a script's program, or why it has none.
+fn shown(alloc: Global, script: &[u8]) -> Result<String, AllocError> {
     let mut out = String::new(alloc);
-    for i in 0..program.len() {
-        match program.get(i) {
-            Part::Section(calls) => {
-                out.push_str("section")?;
-                show_calls(&mut out, calls.as_slice())?;
-            }
-            Part::Phase {
-                opening,
-                count,
-                shell,
-                closing,
-            } => {
-                out.push_str(if count.is_some() { "some" } else { "phase" })?;
-                show_call(&mut out, opening)?;
-                out.push_str(" (")?;
-                show_calls(&mut out, shell.as_slice())?;
-                out.push_str(" )")?;
-                show_call(&mut out, closing)?;
+    match program(alloc, script) {
+        Ok(program) => {
+            for part in program.as_slice() {
+                show_part(&mut out, part)?;
             }
         }
-        out.push_str(";")?;
+        Err(ProgramFault::TooLarge) => out.push_str("too large")?,
+        Err(ProgramFault::NoMemory) => out.push_str("no memory")?,
     }
     Ok(out)
 }
 
+/// Whether each script's program is what stands beside it.
+fn each_script_says(rt: &impl Abort, alloc: Global, rows: &[(&[u8], &str)]) -> Result<(), Fail> {
+    for (script, want) in rows {
+        let found = shown(alloc, script)?;
+        assert_eq!(rt; found.as_str(), *want, "at {script:?}");
+    }
+    Ok(())
+}
+
+static A_SCRIPT_IS_SECTIONS_AND_PHASES: [(&[u8], &str); 20] = [
+    (b"", ""),
+    (b"\n# nothing\r\n \t\n", ""),
+    (
+        b"flow create 0 ingress pattern eth / end actions queue index 1 / end\nstart\nstop\n",
+        "section 1.1 create 1, eth;phase 2.1 start ( ) 3.1 stop;",
+    ),
+    (b"flow crate 0\n", "section 1.1 bad;"),
+    (b"stop\n", "section 1.1 not-started;"),
+    (b"\n\n\nstop", "section 4.1 not-started;"),
+    (b"start\nstop", "phase 1.1 start ( ) 2.1 stop;"),
+    (b"start\r\nstop\r\n", "phase 1.1 start ( ) 2.1 stop;"),
+    (b"start\r\r\nstop\r", "section 1.1 bad 2.1 not-started;"),
+    (
+        b"start\nstart\nforward 2\nstop\n",
+        "phase 1.1 start ( 2.1 already-started 3.1 already-started ) 4.1 stop;",
+    ),
+    (b"start", "phase 1.1 start ( ) 2.1 stop;"),
+    (b"start\n", "phase 1.1 start ( ) 2.1 stop;"),
+    (b"start\n\n", "phase 1.1 start ( ) 3.1 stop;"),
+    (b"start\n\r", "phase 1.1 start ( ) 3.1 stop;"),
+    (b"forward 3\nstop", "some 1.1 start 3 ( ) 2.1 stop;"),
+    (b"start\nstop stop", "phase 1.1 start ( 2.1 bad ) 3.1 stop;"),
+    (
+        b"start\nflow create 1 ingress pattern end actions queue index 0x2 / end\nstop\nstop",
+        "phase 1.1 start ( 2.1 port ) 3.1 stop;section 4.1 not-started;",
+    ),
+    (
+        b"forward 1\nstop\nforward 2\nstop\n",
+        "some 1.1 start 1 ( ) 2.1 stop;some 3.1 start 2 ( ) 4.1 stop;",
+    ),
+    (
+        b"#\nstart # now\n#stop\nstop #",
+        "phase 2.1 start ( ) 4.1 stop;",
+    ),
+    (b"start \x00\n\x01", "section 1.1 bad 2.1 bad;"),
+];
+
 #[test]
 fn a_script_is_sections_and_phases(rt: HostRuntime) -> Result<(), Fail> {
-    let rows: [(&[u8], &str); 19] = [
-        (b"", ""),
-        (b"\n# nothing\r\n \t\n", ""),
-        (
-            b"flow create 0 ingress pattern eth / end actions queue index 1 / end\nstart\nstop\n",
-            "section 1.1 create 1;phase 2.1 start ( ) 3.1 stop;",
-        ),
-        (b"stop\n", "section 1.1 not-started;"),
-        (b"\n\n\nstop", "section 4.1 not-started;"),
-        (b"start\nstop", "phase 1.1 start ( ) 2.1 stop;"),
-        (b"start\r\nstop\r\n", "phase 1.1 start ( ) 2.1 stop;"),
-        (b"start\r\r\nstop\r", "section 1.1 bad 2.1 not-started;"),
-        (
-            b"start\nstart\nstop\n",
-            "phase 1.1 start ( 2.1 already-started ) 3.1 stop;",
-        ),
-        (b"start", "phase 1.1 start ( ) 2.1 stop;"),
-        (b"start\n", "phase 1.1 start ( ) 2.1 stop;"),
-        (b"start\n\n", "phase 1.1 start ( ) 3.1 stop;"),
-        (b"start\n\r", "phase 1.1 start ( ) 3.1 stop;"),
-        (b"start\nstop stop", "phase 1.1 start ( 2.1 bad ) 3.1 stop;"),
-        (
-            b"start\nflow create 0 ingress pattern eth / end actions queue index 0x2 / end\nquit\n\nstop\nstop",
-            "phase 1.1 start ( 2.1 create 2 3.1 bad ) 5.1 stop;section 6.1 not-started;",
-        ),
-        (
-            b"start\nstop\nstart\nstop\n",
-            "phase 1.1 start ( ) 2.1 stop;phase 3.1 start ( ) 4.1 stop;",
-        ),
-        (
-            b"stop\nstart\nstop\nstop\nforward 3\nstart",
-            "section 1.1 not-started;phase 2.1 start ( ) 3.1 stop;section 4.1 not-started 5.1 bad;phase 6.1 start ( ) 7.1 stop;",
-        ),
-        (
-            b"#\nstart # now\n#stop\nstop #",
-            "phase 2.1 start ( ) 4.1 stop;",
-        ),
-        (b"start \x00\n\x01", "section 1.1 bad 2.1 bad;"),
+    each_script_says(&rt, rt.alloc(), &A_SCRIPT_IS_SECTIONS_AND_PHASES)
+}
+
+static QUIT_ENDS_THE_SCRIPT_AND_FIRST_THE_PHASE: [(&[u8], &str); 9] = [
+    (b"quit", "section 1.1 quit;"),
+    (b"\nquit\n", "section 2.1 quit;"),
+    (b"stop\nquit", "section 1.1 not-started 2.1 quit;"),
+    (
+        b"start\nquit",
+        "phase 1.1 start ( ) 2.1 stop;section 2.2 quit;",
+    ),
+    (
+        b"forward 1\nstop 1\nquit\n",
+        "some 1.1 start 1 ( 2.1 bad ) 3.1 stop;section 3.2 quit;",
+    ),
+    (
+        b"start\nstop\nquit",
+        "phase 1.1 start ( ) 2.1 stop;section 3.1 quit;",
+    ),
+    (b"quit\nquit\nstart\nbad", "section 1.1 quit;"),
+    (
+        b"start\nquit\nstop",
+        "phase 1.1 start ( ) 2.1 stop;section 2.2 quit;",
+    ),
+    (b"quit now\nstop", "section 1.1 bad 2.1 not-started;"),
+];
+
+#[test]
+fn quit_ends_the_script_and_first_the_phase(rt: HostRuntime) -> Result<(), Fail> {
+    each_script_says(&rt, rt.alloc(), &QUIT_ENDS_THE_SCRIPT_AND_FIRST_THE_PHASE)
+}
+
+/// A script: this front, then a line so many times, then this back.
+fn repeated(
+    alloc: Global,
+    front: &[u8],
+    line: &[u8],
+    times: u32,
+    back: &[u8],
+) -> Result<Vec<u8>, AllocError> {
+    let mut script = Vec::new(alloc);
+    script.extend_from_slice(front)?;
+    for _ in 0..times {
+        script.extend_from_slice(line)?;
+    }
+    script.extend_from_slice(back)?;
+    Ok(script)
+}
+
+/// Whether a script is too large.
+fn is_too_large(alloc: Global, script: &[u8]) -> Result<bool, ProgramFault> {
+    match program(alloc, script) {
+        Ok(_program) => Ok(false),
+        Err(ProgramFault::TooLarge) => Ok(true),
+        Err(ProgramFault::NoMemory) => Err(ProgramFault::NoMemory),
+    }
+}
+
+#[test]
+fn a_script_has_at_most_65536_lines(rt: HostRuntime) -> Result<(), Fail> {
+    let rows: [(&[u8], u32, &[u8], bool); 8] = [
+        (b"", 65_536, b"", false),
+        (b"", 65_537, b"", true),
+        (b"", 65_535, b"#", false),
+        (b"", 65_536, b"#", true),
+        (b"", 65_536, b"\r", true),
+        (b"", 65_536, b" ", true),
+        (b"quit\n", 65_535, b"", false),
+        (b"quit\n", 65_536, b"", true),
     ];
-    for (script, want) in rows {
-        let found = program(rt.alloc(), script)?;
-        let shown = show(rt.alloc(), &found)?;
-        assert_eq!(rt; shown.as_str(), want, "at {script:?}");
+    for (front, times, back, want) in rows {
+        let script = repeated(rt.alloc(), front, b"\n", times, back)?;
+        assert_eq!(rt; is_too_large(rt.alloc(), &script)?, want, "at {times}");
+    }
+    Ok(())
+}
+
+#[test]
+fn a_script_has_at_most_65536_calls(rt: HostRuntime) -> Result<(), Fail> {
+    let rows: [(&[u8], u32, &[u8], bool); 8] = [
+        (b"", 65_536, b"", false),
+        (b"start\n", 65_534, b"", false),
+        (b"start\n", 65_534, b"stop\n", false),
+        (b"start\n", 65_535, b"", true),
+        (b"", 65_535, b"start\n", true),
+        (b"start\n", 65_533, b"quit\n", false),
+        (b"start\n", 65_534, b"quit\n", true),
+        (b"quit\n", 65_535, b"", false),
+    ];
+    for (front, times, back, want) in rows {
+        let script = repeated(rt.alloc(), front, b"x\n", times, back)?;
+        assert_eq!(rt; is_too_large(rt.alloc(), &script)?, want, "at {times}");
     }
     Ok(())
 }
@@ -108,7 +211,7 @@ fn lists_give_their_items(rt: HostRuntime) -> Result<(), Fail> {
     assert_eq!(rt; found.as_slice().len(), 1);
     if let Part::Phase { shell, .. } = found.get(0) {
         assert_eq!(rt; shell.len(), 1);
-        assert_eq!(rt; shell.get(0).op, Op::Bad(BadKind::Arguments));
+        assert_eq!(rt; shell.get(0).at.line, 2);
     } else {
         assert!(rt; false, "no phase");
     }

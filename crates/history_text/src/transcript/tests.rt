@@ -1,10 +1,13 @@
+mod replies;
+
 use super::*;
-use adapter::{
-    At, BadKind, Call, Caller, Cause, Fate, Fault, Op, Parcel, Reply, RuleSpec, Verdict,
-};
+use adapter::{At, Call, Caller, Op, Parcel, Reply};
 use arrayvec::ArrayVec;
+use flow_actions::{Action, Actions, Fate, Verdict};
+use flow_rules::{Attr, RuleSpec};
 use io_edges::MemSink;
-use packet_headers::parse;
+use packet_headers::{ItemKind, parse};
+use pattern_items::{Item, Pattern};
 use std::test::Fail;
 
 /// UDP from 10.1.2.3 to 10.1.2.4, as far as its Ethernet header.
@@ -17,6 +20,30 @@ const fn call(line: u32, op: Op) -> Call {
     }
 }
 
+/// The pattern `eth`, and the action `queue index 1`.
+fn rule() -> RuleSpec {
+    let mut items = ArrayVec::new();
+    items.push(Item {
+        kind: ItemKind::Eth,
+        given: None,
+        last: None,
+        mask: None,
+    });
+    let mut list = ArrayVec::new();
+    list.push(Action::Queue(1));
+    RuleSpec {
+        attr: Attr {
+            group: 0,
+            priority: 0,
+            ingress: true,
+            egress: false,
+            transfer: false,
+        },
+        pattern: Pattern { items, more: 0 },
+        actions: Actions { list, more: 0 },
+    }
+}
+
 #[test]
 fn one_rule_and_one_frame(rt: HostRuntime) -> Result<(), Fail> {
     let limits = Limits {
@@ -24,7 +51,7 @@ fn one_rule_and_one_frame(rt: HostRuntime) -> Result<(), Fail> {
         flow_max: 4096,
     };
     let mut adapter = Adapter::new(rt.alloc(), limits)?;
-    let create = call(1, Op::Create(RuleSpec { queue: 1 }));
+    let create = call(1, Op::Create(rule()));
     adapter.step(Caller::SHELL, &create)?;
     adapter.step(Caller::SHELL, &call(2, Op::Start(None)))?;
     let parcel = Parcel {
@@ -78,78 +105,6 @@ fn a_sink_that_fails_at_byte_1_has_the_first(rt: HostRuntime) -> Result<(), Fail
         Err(fault)
     );
     assert_eq!(rt; sink.taken(), b"t".as_slice());
-    Ok(())
-}
-
-#[test]
-fn texts_of_refusals(rt: HostRuntime) -> Result<(), Fail> {
-    let limits = Limits {
-        rxq: 1,
-        flow_max: 4096,
-    };
-    let call = call(12, Op::Stop);
-    let conf = Fault {
-        cause: Cause::ActionConf,
-        at: 0,
-    };
-    let full = Fault {
-        cause: Cause::StoreFull,
-        at: 0,
-    };
-    let rows = [
-        (
-            0,
-            Reply::Fault(conf),
-            b"shell 12.1: Caught error type 15 (ACTION_CONF): action 0: bad value\n".as_slice(),
-        ),
-        (
-            0,
-            Reply::Fault(full),
-            b"shell 12.1: Caught error type 1 (UNSPECIFIED): store full\n".as_slice(),
-        ),
-        (
-            0,
-            Reply::Bad(BadKind::Arguments),
-            b"shell 12.1: Bad arguments\n".as_slice(),
-        ),
-        (
-            0,
-            Reply::Bad(BadKind::Port),
-            b"shell 12.1: Invalid port\n".as_slice(),
-        ),
-        (
-            0,
-            Reply::Bad(BadKind::NotStarted),
-            b"shell 12.1: Packet forwarding not started\n".as_slice(),
-        ),
-        (
-            0,
-            Reply::Bad(BadKind::AlreadyStarted),
-            b"shell 12.1: Packet forwarding already started\n".as_slice(),
-        ),
-        (
-            1,
-            Reply::Created(7),
-            b"agent0 12.1: Flow rule #7 created\n".as_slice(),
-        ),
-        (
-            8,
-            Reply::Created(7),
-            b"agent7 12.1: Flow rule #7 created\n".as_slice(),
-        ),
-    ];
-    for (caller, reply, line) in rows {
-        let mut sink = MemSink::new(rt.alloc(), 1000, None)?;
-        let mut page = Page::new();
-        let entry = EntryView::Asked {
-            caller: Caller(caller),
-            call: &call,
-            reply: &reply,
-        };
-        print_entry(&mut sink, &mut page, limits, entry);
-        assert_eq!(rt; finish(&mut sink, page), Ok(()));
-        assert_eq!(rt; sink.taken(), line);
-    }
     Ok(())
 }
 

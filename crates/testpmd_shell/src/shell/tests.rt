@@ -1,3 +1,7 @@
+mod patterns;
+mod phases;
+mod rules;
+
 use super::*;
 use io_edges::{FaultPlan, MemShelf, MemSink};
 use std::alloc::{AllocError, Global};
@@ -98,6 +102,39 @@ fn capture(alloc: Global, frame: &[u8], count: usize) -> Result<Vec<u8>, AllocEr
         bytes.extend_from_slice(frame)?;
     }
     Ok(bytes)
+}
+
+/// A capture of these frames.
+fn capture_of(alloc: Global, frames: &[&[u8]]) -> Result<Vec<u8>, AllocError> {
+    let mut bytes = Vec::from_slice(alloc, &FILE_HEADER)?;
+    for frame in frames {
+        bytes.extend_from_slice(&[0, 0, 0, 0, 0, 0, 0, 0])?;
+        let len = frame.len().min(255) as u8;
+        bytes.extend_from_slice(&[len, 0, 0, 0, len, 0, 0, 0])?;
+        bytes.extend_from_slice(frame)?;
+    }
+    Ok(bytes)
+}
+
+/// Runs a script over frames with these words beside the files' names, and compares the transcript.
+fn expect_transcript(
+    rt: &impl Abort,
+    alloc: Global,
+    words: &[&str],
+    script: &str,
+    frames: &[&[u8]],
+    transcript: &str,
+) {
+    let Ok(bytes) = capture_of(alloc, frames) else {
+        panic!(rt; "no memory");
+    };
+    Case::of(words, script.as_bytes(), &bytes).expect(
+        rt,
+        alloc,
+        Status::Done,
+        transcript.as_bytes(),
+        script,
+    );
 }
 
 /// The rule, a phase, and nothing else.
@@ -243,6 +280,8 @@ fn limits_and_words(rt: HostRuntime) -> Result<(), AllocError> {
         &["--rxq=2", "--rx-pcap=capture"],
         &["--cmdline-file=script", "--cmdline-file=script"],
         &["--cmdline-file=script", "--nb-cores=2"],
+        &["--cmdline-file=script", "--flow-max=0"],
+        &["--cmdline-file=script", "--flow-max=65537"],
     ] {
         Case::of(words, b"", b"").expect(
             &rt,

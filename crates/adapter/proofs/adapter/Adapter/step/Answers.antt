@@ -1,21 +1,37 @@
-use Rattle.std.proofs.Common.{◌≡◌, ◌<◌, ◌^◌, ◌++◌, ◌∷◌, [], length, sym, ap, ◌∙◌, subst, arith, List}
-use Rattle.adapter.specs.declared.rule.Rule.{Rule}
+use Rattle.std.proofs.Common.{rules, ◌≡◌, ◌<◌, ◌^◌, ◌++◌, ◌∷◌, [], length, sym, ap, ◌∙◌, subst, arith, List, Option}
+use Rattle.flow_rules.specs.declared.change.Change.{Change}
+use Rattle.flow_rules.specs.RuleView.{RuleView}
 use Rattle.adapter.specs.declared.reply.Reply.{Reply}
 use Rattle.adapter.specs.Entry.{Entry, Asked}
-use Rattle.adapter.specs.State.{state_after}
+use Rattle.adapter.specs.State.{State, state_with, change_by}
 use Rattle.adapter.specs.Reply.{answer_of}
 use Rattle.adapter.specs.Sound.{Sound}
-use Rattle.adapter.proofs.SoundGrowth.{Sound-asked}
+use Rattle.adapter.proofs.SoundGrowth.{Sound-asked, IsValid-sound}
 use Rattle.adapter.proofs.adapter.Adapter.step.Goals as goal
+
+pub carry_out-requires-clause-numbers : goal.carry_out-requires-clause-numbers
+carry_out-requires-clause-numbers c =
+    let inside = c.self.inside in
+    let at : List RuleView → State = λ rs. record { flows = record { rules = rs; isolated = inside.isolated }; ids = inside.ids } in
+    let same : c.reserve.new.self.items ≡ inside.rules.items = c.in_ok-reserve.ensures.items in
+    let changed : c.in_ok-reply.field-0.change ≡ change_by inside.limits (at inside.rules.items) c.args.call.now.op =
+    c.in_ok-reply.ensures.change ∙ ap (λ rs. change_by inside.limits (at rs) c.args.call.now.op) (c.as_slice.ensures.value ∙ same) in
+    let valid = IsValid-sound inside.limits _ inside.ids inside.totals inside.history c.self.invariant c.args.call.now.op in
+    subst (λ (rs : List RuleView). (state_with (at rs) c.in_ok-reply.field-0.change).ids < 2 ^ 32) (sym same)
+    (subst (λ (ch : Option Change). (state_with (at inside.rules.items) ch).ids < 2 ^ 32) (sym changed) valid.numbers)
 
 pub invariant_of-self-2 : goal.invariant_of-self-2
 invariant_of-self-2 c =
-    let more : length c.self.inside.history < 2 ^ 32 = omega arith in
-    let rules : List Rule = c.self.inside.rules.items in
-    let same : c.reserve.new.self.items ≡ rules = c.in_ok-reserve.ensures.items in
-    let replied : c.answer-reply.result ≡ answer_of c.self.inside.limits (record { rules = rules; ids = length rules }) c.self.inside.totals c.args.call.now.op =
-    c.answer-reply.ensures ∙ ap (λ (rs : List Rule). answer_of c.self.inside.limits (record { rules = rs; ids = length rs }) c.self.inside.totals c.args.call.now.op) (c.deref.ensures.value ∙ same) in
-    subst (λ (h : List Entry). Sound c.self.inside.limits c.carry_out.new.rules.items c.self.inside.totals h)
-    (ap (λ (r : Reply). c.self.inside.history ++ Asked c.args.caller c.args.call.now r ∷ []) (sym replied) ∙ sym c.in_ok-add_call.ensures.ok)
-    (Sound-asked c.self.inside.limits rules c.carry_out.new.rules.items c.self.inside.totals c.self.inside.history c.args.caller c.args.call.now c.self.invariant more
-    (c.carry_out.ensures ∙ ap (λ (rs : List Rule). state_after c.self.inside.limits (record { rules = rs; ids = length rs }) c.args.call.now.op) same))
+    let inside = c.self.inside in
+    let more : length inside.history < 2 ^ 32 = omega arith in
+    let at : List RuleView → State = λ rs. record { flows = record { rules = rs; isolated = inside.isolated }; ids = inside.ids } in
+    let same : c.reserve.new.self.items ≡ inside.rules.items = c.in_ok-reserve.ensures.items in
+    let shown : c.as_slice.result.now ≡ inside.rules.items = c.as_slice.ensures.value ∙ same in
+    let changed : c.in_ok-reply.field-0.change ≡ change_by inside.limits (at inside.rules.items) c.args.call.now.op =
+    c.in_ok-reply.ensures.change ∙ ap (λ rs. change_by inside.limits (at rs) c.args.call.now.op) shown in
+    let replied : c.in_ok-kept.kept ≡ answer_of inside.limits (at inside.rules.items) inside.totals c.args.call.now.op =
+    (search rules) ∙ c.in_ok-reply.ensures.reply ∙ ap (λ rs. answer_of inside.limits (at rs) inside.totals c.args.call.now.op) shown in
+    subst (λ (h : List Entry). Sound inside.limits (record { rules = c.carry_out.new.rules.items; isolated = c.carry_out.new.isolated }) c.carry_out.new.ids inside.totals h)
+    (ap (λ (r : Reply). inside.history ++ Asked c.args.caller c.args.call.now r ∷ []) (sym replied) ∙ sym c.in_ok-add_call.ensures.ok)
+    (Sound-asked inside.limits _ (record { rules = c.carry_out.new.rules.items; isolated = c.carry_out.new.isolated }) inside.ids c.carry_out.new.ids inside.totals inside.history c.args.caller c.args.call.now c.self.invariant more
+    (c.carry_out.ensures ∙ ap (λ rs. state_with (at rs) c.in_ok-reply.field-0.change) same ∙ ap (λ ch. state_with (at inside.rules.items) ch) changed))

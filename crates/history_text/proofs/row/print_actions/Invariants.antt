@@ -1,0 +1,10 @@
+use Rattle.std.proofs.Common.{take}
+use Rattle.std.specs.List.{flat_map}
+use Rattle.io_edges.specs.Gather.{gather_of}
+use Rattle.io_edges.specs.Prints.{Prints}
+use Rattle.history_text.specs.Rows.{action_text}
+use Rattle.history_text.proofs.row.print_actions.Given as goal
+
+abbrev pub invariant-loop-place : goal.invariant-loop-place
+invariant-loop-place g l = Prints (gather_of g.K.Sink.taken g.K.Sink.faults l.initial.sink l.initial.page)
+    (gather_of g.K.Sink.taken g.K.Sink.faults l.sink l.page) (flat_map action_text (take l.place l.actions))

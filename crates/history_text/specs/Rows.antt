@@ -1,0 +1,34 @@
+-- The rows of a list of rules.
+use Rattle.std.specs.Prelude.{ℕ, List, ◌++◌, codes, decimal}
+use Rattle.std.specs.List.{flat_map}
+use Rattle.packet_headers.specs.declared.items.ItemKind.{ItemKind}
+use Rattle.packet_headers.specs.declared.items.ItemKind.TheVariants as items
+use Rattle.flow_actions.specs.declared.action.ActionKind.{ActionKind}
+use Rattle.flow_actions.specs.declared.action.ActionKind.TheVariants as actions
+use Rattle.adapter.specs.declared.rows.ListRow.{ListRow}
+
+-- an item's name and a space
+abbrev pub item_text : ItemKind → List ℕ
+item_text items.Void = codes "VOID "
+item_text items.Eth = codes "ETH "
+item_text items.Vlan = codes "VLAN "
+item_text items.Ipv4 = codes "IPV4 "
+item_text items.Ipv6 = codes "IPV6 "
+item_text items.Tcp = codes "TCP "
+item_text items.Udp = codes "UDP "
+item_text items.Vxlan = codes "VXLAN "
+
+-- a space and an action's name
+abbrev pub action_text : ActionKind → List ℕ
+action_text actions.Void = codes " VOID"
+action_text actions.Queue = codes " QUEUE"
+action_text actions.Drop = codes " DROP"
+action_text actions.Jump = codes " JUMP"
+
+abbrev pub row_text : ListRow → List ℕ
+row_text row = codes "\n" ++ (decimal row.id ++ (codes "\t" ++ (decimal row.group ++ (codes "\t" ++ (decimal row.priority
+    ++ (codes "\ti--\t" ++ (flat_map item_text row.items.items ++ (codes "=>" ++ flat_map action_text row.actions.items))))))))
+
+-- a line of the columns' names, and a line for each rule
+abbrev pub list_text : List ListRow → List ℕ
+list_text rows = codes "ID\tGroup\tPrio\tAttr\tRule" ++ flat_map row_text rows

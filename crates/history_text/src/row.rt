@@ -1,0 +1,92 @@
+//! The rows of a list of rules. The names of items and actions stand here and nowhere else.
+ghost use Rattle.std.specs.Prelude.{◌≡◌};
+ghost use Rattle.std.specs.List.{flat_map};
+ghost use Rattle.io_edges.specs.Gather.{gather_of};
+ghost use Rattle.io_edges.specs.Prints.{Prints};
+ghost use Rattle.history_text.specs.Rows.{item_text, action_text, row_text, list_text};
+
+use adapter::{ListRow, RuleList};
+use flow_actions::ActionKind;
+use io_edges::{Page, Sink, print, print_number};
+use packet_headers::ItemKind;
+
+/// An item's name and a space.
+fn item_name(item: ItemKind) -> &'static [u8]
+    ensures { result.now ≡ item_text item }
+{
+    match item {
+        ItemKind::Void => b"VOID ",
+        ItemKind::Eth => b"ETH ",
+        ItemKind::Vlan => b"VLAN ",
+        ItemKind::Ipv4 => b"IPV4 ",
+        ItemKind::Ipv6 => b"IPV6 ",
+        ItemKind::Tcp => b"TCP ",
+        ItemKind::Udp => b"UDP ",
+        ItemKind::Vxlan => b"VXLAN ",
+    }
+}
+
+/// A space and an action's name.
+fn action_name(action: ActionKind) -> &'static [u8]
+    ensures { result.now ≡ action_text action }
+{
+    match action {
+        ActionKind::Void => b" VOID",
+        ActionKind::Queue => b" QUEUE",
+        ActionKind::Drop => b" DROP",
+        ActionKind::Jump => b" JUMP",
+    }
+}
+
+fn print_items<K: Sink>(sink: &mut K, page: &mut Page, items: &[ItemKind])
+    ensures { Prints (gather_of K.taken K.faults sink.old page.old)
+        (gather_of K.taken K.faults sink.new page.new) (flat_map item_text items.now) }
+{
+    for place in 0..items.len() {
+        print(sink, page, item_name(items[place]));
+    }
+}
+
+fn print_actions<K: Sink>(sink: &mut K, page: &mut Page, actions: &[ActionKind])
+    ensures { Prints (gather_of K.taken K.faults sink.old page.old)
+        (gather_of K.taken K.faults sink.new page.new) (flat_map action_text actions.now) }
+{
+    for place in 0..actions.len() {
+        print(sink, page, action_name(actions[place]));
+    }
+}
+
+/// A line end, and the rule's line.
+fn print_row<K: Sink>(sink: &mut K, page: &mut Page, row: &ListRow)
+    ensures { Prints (gather_of K.taken K.faults sink.old page.old)
+        (gather_of K.taken K.faults sink.new page.new) (row_text row.now) }
+{
+    print(sink, page, b"\n");
+    print_number(sink, page, row.id);
+    print(sink, page, b"\t");
+    print_number(sink, page, row.group);
+    print(sink, page, b"\t");
+    print_number(sink, page, row.priority);
+    print(sink, page, b"\ti--\t");
+    print_items(sink, page, row.items.as_slice());
+    print(sink, page, b"=>");
+    print_actions(sink, page, row.actions.as_slice());
+}
+
+fn print_rows<K: Sink>(sink: &mut K, page: &mut Page, rows: &RuleList)
+    ensures { Prints (gather_of K.taken K.faults sink.old page.old)
+        (gather_of K.taken K.faults sink.new page.new) (flat_map row_text rows.now) }
+{
+    for place in 0..rows.len() {
+        print_row(sink, page, rows.get(place));
+    }
+}
+
+/// The list of rules, without the end of its last line.
+pub(crate) fn print_list<K: Sink>(sink: &mut K, page: &mut Page, rows: &RuleList)
+    ensures { Prints (gather_of K.taken K.faults sink.old page.old)
+        (gather_of K.taken K.faults sink.new page.new) (list_text rows.now) }
+{
+    print(sink, page, b"ID\tGroup\tPrio\tAttr\tRule");
+    print_rows(sink, page, rows);
+}

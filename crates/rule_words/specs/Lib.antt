@@ -1,0 +1,10 @@
+pub mod Actions
+pub mod Address
+pub mod Attributes
+pub mod FieldWords
+pub mod Flags
+pub mod Items
+pub mod Number
+pub mod Relations
+pub mod Vocabulary
+pub mod Written

@@ -1,0 +1,71 @@
+//! The numbers of the grammar.
+ghost use Rattle.std.specs.Prelude.{◌≡◌, ◌+◌, ◌-◌, ◌*◌, ◌≤◌, ◌^◌};
+ghost use Rattle.rule_words.specs.Number as spec;
+ghost use Rattle.rule_words.specs.Number.{number_of, number_in, decimal_number, below};
+
+/// The number that a word is, where it is one and has at most so many bits.
+pub fn number_of_bits(bits: u8, word: &[u8]) -> Option<u128>
+    requires { bits ≤ 128 }
+    ensures { result ≡ spec.number_of_bits bits word.now }
+{
+    let value = number_of_128_bits(word)?;
+    if value > ones(bits) {
+        return None;
+    }
+    Some(value)
+}
+
+/// The number of so many ones in binary.
+pub(crate) fn ones(bits: u8) -> u128
+    requires { bits ≤ 128 }
+    ensures { result ≡ 2 ^ bits - 1 }
+{
+    if bits == 0 {
+        return 0;
+    }
+    u128::MAX >> (128 - bits)
+}
+
+fn number_of_128_bits(word: &[u8]) -> Option<u128>
+    ensures { result ≡ below (2 ^ 128) (number_of word.now) }
+{
+    match word.strip_prefix(b"0x") {
+        Some(digits) => number_of_digits(16, digits),
+        None => decimal_number(word),
+    }
+}
+
+/// The number of decimal digits without a leading zero.
+pub(crate) fn decimal_number(word: &[u8]) -> Option<u128>
+    ensures { result ≡ below (2 ^ 128) (decimal_number word.now) }
+{
+    if word.len() > 1 && word[0] == b'0' {
+        return None;
+    }
+    number_of_digits(10, word)
+}
+
+/// The number of one or more digits of a base.
+pub(crate) fn number_of_digits(base: u32, digits: &[u8]) -> Option<u128>
+    requires low { 2 ≤ base }
+    requires high { base ≤ 16 }
+    ensures { result ≡ below (2 ^ 128) (number_in base digits.now) }
+{
+    if digits.is_empty() {
+        return None;
+    }
+    let mut value: u128 = 0;
+    for digit in digits {
+        let next = char::from(*digit).to_digit(base)?;
+        value = with_digit(value, base, next)?;
+    }
+    Some(value)
+}
+
+/// The number with one more digit behind it, where it has at most 128 bits.
+fn with_digit(value: u128, base: u32, digit: u32) -> Option<u128>
+    ensures { result ≡ below (2 ^ 128) (Some (value * base + digit)) }
+{
+    let moved = value.checked_mul(base as u128)?;
+    moved.checked_add(digit as u128)
+}
