@@ -1,31 +1,31 @@
-// The plain one-thread adapter: the rules in effect, and the history of all that was asked and all that passed.
-//
-// Its model in one sentence: an adapter is its limits and its history, a list of entries that is always legal.
-//
-// The problem. A port takes calls that change its rules, and frames that these rules judge. Whoever reads what it did
-// wants to know that each reply and each verdict is the one that was due at that moment.
-//
-// The naive answer keeps nothing but the list of entries. Each entry is a call with its reply, or a frame with its
-// verdict. To answer a call it folds the whole list into the state behind it: the rules in effect, in the order in which
-// they took effect. A frame's verdict is found by a walk that scans those rules, group by group. The totals are counts
-// over the entries.
-//
-// The code here does the same with running values: a vector of the rules in effect and counters of the frames. The
-// type's invariant says that they are those of the history, and that the history is legal: each reply and each verdict is
-// the one that the entries before it give. So each call has one exact clause, in the words of the history alone, and
-// whoever stands above needs nothing else.
-//
-// Between calls the history only grows. A call that meets want of memory leaves the adapter as it was: `step` and
-// `packet` take what they need before they change anything. A history has at most 2^32 entries; the call that would pass
-// this answers want of memory.
-//
-// The definitions stand in `specs/`: `Entry` and `History` (what is legal), `State` (what calls do), `Reply` (what they
-// answer), `Rows` (what a list of rules tells), `Totals`; what rules do to frames stands in `flow_rules`. A later command
-// adds a case to `State` and `Reply`; nothing above these two words looks inside.
-//
-// Entries of frames are many, so they are small and lie in the list; a call lies in a box of its own.
-//
-// Not done here: reading scripts or captures, printing, threads.
+//! The plain one-thread adapter: the rules in effect, and the history of all that was asked and all that passed.
+//!
+//! Its model in one sentence: an adapter is its limits and its history, a list of entries that is always legal.
+//!
+//! The problem. A port takes calls that change its rules, and frames that these rules judge. Whoever reads what it did
+//! wants to know that each reply and each verdict is the one that was due at that moment.
+//!
+//! The naive answer keeps nothing but the list of entries. Each entry is a call with its reply, or a frame with its
+//! verdict. To answer a call it folds the whole list into the state behind it: the rules in effect, in the order in which
+//! they took effect. A frame's verdict is found by a walk that scans those rules, group by group. The totals are counts
+//! over the entries.
+//!
+//! The code here does the same with running values: a vector of the rules in effect and counters of the frames. The
+//! type's invariant says that they are those of the history, and that the history is legal: each reply and each verdict is
+//! the one that the entries before it give. So each call has one exact clause, in the words of the history alone, and
+//! whoever stands above needs nothing else.
+//!
+//! Between calls the history only grows. A call that meets want of memory leaves the adapter as it was: `step` and
+//! `packet` take what they need before they change anything. A history has at most 2^32 entries; the call that would pass
+//! this answers want of memory.
+//!
+//! The definitions stand in `specs/`: `Entry` and `History` (what is legal), `State` (what calls do), `Reply` (what they
+//! answer), `Rows` (what a list of rules tells), `Totals`; what rules do to frames stands in `flow_rules`. A later command
+//! adds a case to `State` and `Reply`; nothing above these two words looks inside.
+//!
+//! Entries of frames are many, so they are small and lie in the list; a call lies in a box of its own.
+//!
+//! Not done here: reading scripts or captures, printing, threads.
 #![tactic(auto)]
 
 mod adapter;

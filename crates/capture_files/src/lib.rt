@@ -1,29 +1,29 @@
-// Captures: pcap files of format 2.4, read one record a call.
-//
-// A capture is a file header of 24 bytes and then records, each of a header of 16 bytes and the captured bytes of one
-// frame. Its model is a list of frames and one stop: why no further frame comes, and where. `specs/Capture.antt` says it
-// as a function of the file's bytes, `capture`: the header's form or its first fault (`specs/Header.antt`), then the
-// record at the front of what is left, or why there is none (`specs/Record.antt`), and so on with the rest. The recursion
-// has the number of bytes as fuel; each record has 16 bytes or more, so the fuel lasts (`proofs/Records.antt`,
-// `records_of-step`).
-//
-// The naive reader takes the whole file into memory and goes over it by that definition. `CaptureReader` keeps nothing
-// but how far it has come, and reads a record into its caller's buffer from a source that may give single bytes. It is
-// the same since a record is told by its own bytes, whatever stands behind it: so what is still to come, `rest_of` in
-// `specs/Reader.antt`, is a function of the reader and of the bytes that its source has left. Each answer of `next` takes
-// one frame off it, or is its stop; a fresh reader has the whole capture to come. For the same reason the frames of a file's
-// front are the first of the file's, wherever the front ends (`frames_of_a_front_come_first`).
-//
-// Between two calls the source stands in front of the next record, or of the file header where none was read yet. Every
-// answer but a frame ends the reader: nothing is read behind it. Where the source fails in the midst of a record, the
-// frames that were given are those whose last byte came before; the bytes of the record are lost.
-//
-// A file is refused where its magic isn't one that is read (so far little-endian with microseconds: another form is one
-// case more of `Format`, in `src/header.rt` and `specs/Header.antt`), where its version isn't 2.4 or its link type not
-// Ethernet. Snap length, stamps and wire lengths aren't checked. A capture has limits (`src/record.rt`); past them it is
-// too large, at the place of the record that passes them.
-//
-// Not done here: captures are not written, not compressed, and not read backwards or from the middle.
+//! Captures: pcap files of format 2.4, read one record a call.
+//!
+//! A capture is a file header of 24 bytes and then records, each of a header of 16 bytes and the captured bytes of one
+//! frame. Its model is a list of frames and one stop: why no further frame comes, and where. `specs/Capture.antt` says it
+//! as a function of the file's bytes, `capture`: the header's form or its first fault (`specs/Header.antt`), then the
+//! record at the front of what is left, or why there is none (`specs/Record.antt`), and so on with the rest. The recursion
+//! has the number of bytes as fuel; each record has 16 bytes or more, so the fuel lasts (`proofs/Records.antt`,
+//! `records_of-step`).
+//!
+//! The naive reader takes the whole file into memory and goes over it by that definition. `CaptureReader` keeps nothing
+//! but how far it has come, and reads a record into its caller's buffer from a source that may give single bytes. It is
+//! the same since a record is told by its own bytes, whatever stands behind it: so what is still to come, `rest_of` in
+//! `specs/Reader.antt`, is a function of the reader and of the bytes that its source has left. Each answer of `next` takes
+//! one frame off it, or is its stop; a fresh reader has the whole capture to come. For the same reason the frames of a file's
+//! front are the first of the file's, wherever the front ends (`frames_of_a_front_come_first`).
+//!
+//! Between two calls the source stands in front of the next record, or of the file header where none was read yet. Every
+//! answer but a frame ends the reader: nothing is read behind it. Where the source fails in the midst of a record, the
+//! frames that were given are those whose last byte came before; the bytes of the record are lost.
+//!
+//! A file is refused where its magic isn't one that is read (so far little-endian with microseconds: another form is one
+//! case more of `Format`, in `src/header.rt` and `specs/Header.antt`), where its version isn't 2.4 or its link type not
+//! Ethernet. Snap length, stamps and wire lengths aren't checked. A capture has limits (`src/record.rt`); past them it is
+//! too large, at the place of the record that passes them.
+//!
+//! Not done here: captures are not written, not compressed, and not read backwards or from the middle.
 #![tactic(auto)]
 
 mod fill;

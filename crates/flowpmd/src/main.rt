@@ -1,8 +1,8 @@
-// The flow shell of testpmd over a software port, as a program over real files and standard output.
-//
-// The words behind the program's name are those of `testpmd_shell::session`, which `main` calls; what is proved of the
-// program is that call's contract. This crate only hands it the real shelf, standard output and the words, says the
-// status on standard error and ends with its code.
+//! The flow shell of testpmd over a software port, as a program over real files and standard output.
+//!
+//! The words behind the program's name are those of `testpmd_shell::session`, which `main` calls; what is proved of the
+//! program is that call's contract. This crate only hands it the real shelf, standard output and the words, says the
+//! status on standard error and ends with its code.
 #![tactic(auto)]
 
 use io_edges::{FileShelf, OpenGate, StdSink};

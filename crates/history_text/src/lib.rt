@@ -1,29 +1,29 @@
-// The transcript of a history: what the program prints at its end.
-//
-// A history is a list of entries, each a call with its reply or a frame with its verdict. Its transcript is a text of
-// lines: one for each entry in order, and then one with the totals. Each line is made of the entry alone, and of the
-// number of Rx queues, so the transcript of a history is the lines of its entries joined, and so it is defined
-// (`specs/Text.antt`, with the parts of a line in the files beside it).
-//
-// The naive way is to make that text in memory and then to write it. A history of a million frames has some fifty
-// million bytes of it, and a refused growth in the middle would lose a transcript that could still be printed. So each
-// piece of a line goes at once to a page of fixed size before the sink (`io_edges`), and no memory is taken.
-//
-// The answer is the same: each printing function says of the text that was printed before it, whatever it is, that its
-// own piece now stands behind that. At the end the sink took the whole text, or a write failed and it took a front of
-// the text, whose length is told.
-//
-// What holds between calls: after a failed write nothing more is written, so what the sink took is never more than one
-// front.
-//
-// One file prints one part of a line, and the definition of that part has its name:
-// - `caller`: the shell, an agent or a worker (`specs/Callers.antt`),
-// - `cause`: the table of error types, their causes and texts, and a refusal (`specs/Causes.antt`),
-// - `row`: a list of rules, a line each (`specs/Rows.antt`),
-// - `totals`, `reply`, `verdict` (`specs/Totals.antt`, `specs/Replies.antt`, `specs/Verdicts.antt`),
-// - `transcript`: an entry's line, and the whole (`specs/Text.antt`).
-//
-// Not done here: reading a transcript back, and the lines of a capture that stopped early.
+//! The transcript of a history: what the program prints at its end.
+//!
+//! A history is a list of entries, each a call with its reply or a frame with its verdict. Its transcript is a text of
+//! lines: one for each entry in order, and then one with the totals. Each line is made of the entry alone, and of the
+//! number of Rx queues, so the transcript of a history is the lines of its entries joined, and so it is defined
+//! (`specs/Text.antt`, with the parts of a line in the files beside it).
+//!
+//! The naive way is to make that text in memory and then to write it. A history of a million frames has some fifty
+//! million bytes of it, and a refused growth in the middle would lose a transcript that could still be printed. So each
+//! piece of a line goes at once to a page of fixed size before the sink (`io_edges`), and no memory is taken.
+//!
+//! The answer is the same: each printing function says of the text that was printed before it, whatever it is, that its
+//! own piece now stands behind that. At the end the sink took the whole text, or a write failed and it took a front of
+//! the text, whose length is told.
+//!
+//! What holds between calls: after a failed write nothing more is written, so what the sink took is never more than one
+//! front.
+//!
+//! One file prints one part of a line, and the definition of that part has its name:
+//! - `caller`: the shell, an agent or a worker (`specs/Callers.antt`),
+//! - `cause`: the table of error types, their causes and texts, and a refusal (`specs/Causes.antt`),
+//! - `row`: a list of rules, a line each (`specs/Rows.antt`),
+//! - `totals`, `reply`, `verdict` (`specs/Totals.antt`, `specs/Replies.antt`, `specs/Verdicts.antt`),
+//! - `transcript`: an entry's line, and the whole (`specs/Text.antt`).
+//!
+//! Not done here: reading a transcript back, and the lines of a capture that stopped early.
 #![tactic(auto)]
 
 mod caller;

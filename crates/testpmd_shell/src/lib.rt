@@ -1,28 +1,28 @@
-// The flow shell over a software port: a session from its words to its transcript.
-//
-// Its model in one sentence: a session prints the one serial history that its script, its capture and its options make,
-// or says why it did not.
-//
-// The problem. A script of `flow` commands opens phases, in which the frames of a capture pass the rules. The transcript
-// has a line for each command and for each frame, and the reader wants to trust each of them, and every way to end.
-//
-// The definition is naive. The program of the script is a list of sections and phases (`flow_grammar`). The serial history
-// is the concatenation of what each part adds to the history before it: a section its calls, a phase its opening, the
-// shell's calls, its frames by worker 0 and its closing, each entry with the reply or verdict that is due at that place
-// (`specs/Serial`). That history is legal, and it is whole: every call of the program and every frame of its phases stands
-// in it exactly once, in its caller's order, and nothing else does. Both are proved for all programs and captures.
-//
-// The code runs the parts on an adapter and reads one record at a time where a phase asks for it, into one buffer. It
-// keeps no frame but its key and length, in the adapter's history, and prints that history at the end.
-//
-// What `session` and `session_serial` promise stands in `specs/Session`: for each status its cause and what was written,
-// by the bytes that the shelf tells of its names. `Done` says that what was appended to the sink is the transcript of the
-// serial history. Where no call failed the status is the one that the files owe (`specs/Due`), or there was no memory.
-//
-// The order is: words; opening and reading the script; its size; opening the capture; the run; the transcript. What stops
-// earlier has written nothing. A capture that no phase reads is never bad.
-//
-// Not done here: threads (`session` runs the serial order and leaves `rt` and `gate` unused) and the transmit file.
+//! The flow shell over a software port: a session from its words to its transcript.
+//!
+//! Its model in one sentence: a session prints the one serial history that its script, its capture and its options make,
+//! or says why it did not.
+//!
+//! The problem. A script of `flow` commands opens phases, in which the frames of a capture pass the rules. The transcript
+//! has a line for each command and for each frame, and the reader wants to trust each of them, and every way to end.
+//!
+//! The definition is naive. The program of the script is a list of sections and phases (`flow_grammar`). The serial history
+//! is the concatenation of what each part adds to the history before it: a section its calls, a phase its opening, the
+//! shell's calls, its frames by worker 0 and its closing, each entry with the reply or verdict that is due at that place
+//! (`specs/Serial`). That history is legal, and it is whole: every call of the program and every frame of its phases stands
+//! in it exactly once, in its caller's order, and nothing else does. Both are proved for all programs and captures.
+//!
+//! The code runs the parts on an adapter and reads one record at a time where a phase asks for it, into one buffer. It
+//! keeps no frame but its key and length, in the adapter's history, and prints that history at the end.
+//!
+//! What `session` and `session_serial` promise stands in `specs/Session`: for each status its cause and what was written,
+//! by the bytes that the shelf tells of its names. `Done` says that what was appended to the sink is the transcript of the
+//! serial history. Where no call failed the status is the one that the files owe (`specs/Due`), or there was no memory.
+//!
+//! The order is: words; opening and reading the script; its size; opening the capture; the run; the transcript. What stops
+//! earlier has written nothing. A capture that no phase reads is never bad.
+//!
+//! Not done here: threads (`session` runs the serial order and leaves `rt` and `gate` unused) and the transmit file.
 #![tactic(auto)]
 
 mod ask;
