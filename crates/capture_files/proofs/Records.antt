@@ -5,7 +5,6 @@ use lib.Seq.{drop_at, take-append_seam, drop-append-add, drop-append_seam}
 use Rattle.capture_files.specs.declared.header.Format.{Format}
 use Rattle.capture_files.specs.declared.record.RecordHeader.{RecordHeader}
 use Rattle.capture_files.specs.declared.record.Progress.{Progress}
-use Rattle.capture_files.specs.declared.record.TheConstants.{MAX_FRAME_LEN}
 use Rattle.capture_files.specs.declared.stop.Stop.{Stop}
 use Rattle.capture_files.specs.declared.stop.Stop.TheVariants.{End, Bad}
 use Rattle.capture_files.specs.declared.stop.CaptureKind.TheVariants.{RecordCut}
@@ -38,7 +37,7 @@ record_at-header format progress header xs ys h is =
     ∙ ap (frame_behind (refusal_of progress header.captured_len) header progress) (drop_at xs ys 16 h)
 
 -- a record that isn't refused is short
-pub refusal_of-none : (progress : Progress) (captured_len : ℕ) → refusal_of progress captured_len ≡ None → captured_len ≤ MAX_FRAME_LEN
+pub refusal_of-none : (progress : Progress) (captured_len : ℕ) → refusal_of progress captured_len ≡ None → captured_len ≤ 262144
 refusal_of-none progress captured_len allowed = search rules
 
 -- ---- the records behind it

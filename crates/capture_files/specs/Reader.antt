@@ -10,7 +10,6 @@ use Rattle.capture_files.specs.declared.stop.Stop.{Stop}
 use Rattle.capture_files.specs.declared.stop.Stop.TheVariants as stops
 use Rattle.capture_files.specs.declared.parts.Halt.{Halt}
 use Rattle.capture_files.specs.declared.parts.Halt.TheVariants.{Stopped, Faulted}
-use Rattle.capture_files.specs.declared.record.TheConstants.{MAX_FRAME_LEN, MAX_FRAMES}
 use Rattle.capture_files.specs.Record.{Frame}
 use Rattle.capture_files.specs.Parts.{rest_from, Gave, IsUnfinished}
 use Rattle.capture_files.specs.Capture.{Capture, stopped, with_frame, start}
@@ -80,8 +79,8 @@ NextCause before now answers.ReadFault = Rose before now
 -- each frame is counted, and neither frames nor their lengths pass their limits
 pub record CountsFrame (old new : ReaderState) (len : ℕ) : Type 0 where
   pub counted : new.progress.frames ≡ old.progress.frames + 1
-  pub few : new.progress.frames ≤ MAX_FRAMES
-  pub short : len ≤ MAX_FRAME_LEN
+  pub few : new.progress.frames ≤ 65536
+  pub short : len ≤ 262144
 
 abbrev pub Counts : ReaderState → ReaderState → Next → Type 0
 Counts old new (answers.Frame len wire_len stamp) = CountsFrame old new len

@@ -3,7 +3,6 @@ use Rattle.std.specs.Prelude.{ℕ, ◌+◌, ◌*◌, ◌≤◌, ◌==◌, ◌||�
 use Rattle.capture_files.specs.declared.header.Format.{Format}
 use Rattle.capture_files.specs.declared.record.RecordHeader.{RecordHeader}
 use Rattle.capture_files.specs.declared.record.Progress.{Progress}
-use Rattle.capture_files.specs.declared.record.TheConstants.{MAX_FRAMES, MAX_CAPTURED}
 use Rattle.capture_files.specs.declared.stop.Stop.{Stop}
 use Rattle.capture_files.specs.declared.stop.Stop.TheVariants.{End, Bad, Large}
 use Rattle.capture_files.specs.declared.stop.CaptureKind.TheVariants.{RecordCut, RecordLength}
@@ -68,6 +67,6 @@ behind progress captured_len = record {
 
 -- what a reader has come to while it stays within the limits
 pub record IsWithinLimits (progress : Progress) : Type 0 where
-  pub few_frames : progress.frames ≤ MAX_FRAMES
-  pub few_bytes : progress.captured ≤ MAX_CAPTURED
+  pub few_frames : progress.frames ≤ 65536
+  pub few_bytes : progress.captured ≤ 16777216
   pub near : progress.place ≤ 24 + 16 * progress.frames + progress.captured

@@ -80,7 +80,7 @@ pub fn next_record<S: Source>(
     buf: &mut [u8],
 ) -> Result<RecordHeader, Halt>
     requires within { IsWithinLimits progress }
-    requires room { MAX_FRAME_LEN ≤ length buf.old }
+    requires room { 262_144 ≤ length buf.old }
     ensures reads { ReadsRecord format progress (S.left source.old) (S.left source.new) result buf.new }
     ensures allowed { IfOk result (λ header. refusal_of progress header.captured_len ≡ None) }
     ensures told { is_some (S.left source.new) ≡ is_some (S.left source.old) }

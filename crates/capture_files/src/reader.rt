@@ -95,7 +95,7 @@ impl CaptureReader {
     /// Reads the next record.
     pub fn next<S: Source>(&mut self, source: &mut S, buf: &mut [u8]) -> Next
         requires running { self.old.ended ≡ false }
-        requires room { MAX_FRAME_LEN ≤ length buf.old }
+        requires room { 262_144 ≤ length buf.old }
 
         // where the source tells its bytes
         ensures rest { IsSome (S.left source.old)
@@ -133,7 +133,7 @@ fn next_frame<S: Source>(
     buf: &mut [u8],
 ) -> Result<RecordHeader, Halt>
     requires within { IsWithinLimits progress.old }
-    requires room { MAX_FRAME_LEN ≤ length buf.old }
+    requires room { 262_144 ≤ length buf.old }
     ensures reads { ReadsFrame format.old progress.old format.new progress.new (S.left source.old) (S.left source.new) result buf.new }
     ensures progress { MatchResult result (λ header. progress.new ≡ behind progress.old header.captured_len) (λ _. progress.new ≡ progress.old) }
     ensures within { IsWithinLimits progress.new }

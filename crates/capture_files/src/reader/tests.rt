@@ -44,7 +44,7 @@ impl Source for Trickle<'_> {
 
 /// How many frames come, and the answer behind them.
 fn count_frames<S: Source>(source: &mut S, buf: &mut [u8]) -> (u32, Next)
-    requires { MAX_FRAME_LEN ≤ length buf.old }
+    requires { 262_144 ≤ length buf.old }
     ensures { IsSome (S.left source.old) → result.1 ≡ Next.End
         → result.0 ≡ length (capture (told (S.left source.old))).frames }
 {
@@ -254,7 +254,7 @@ fn files_by_single_bytes(rt: HostRuntime) -> Result<(), Fail> {
 
 /// The first answer of a reader.
 fn first_answer<S: Source>(source: &mut S, buf: &mut [u8]) -> Next
-    requires { MAX_FRAME_LEN ≤ length buf.old }
+    requires { 262_144 ≤ length buf.old }
 {
     CaptureReader::new().next(source, buf)
 }

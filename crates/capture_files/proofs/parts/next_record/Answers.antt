@@ -2,7 +2,6 @@
 use Rattle.std.proofs.Common.{◌≡◌, ◌<◌, ◌≤◌, ◌++◌, length, take, drop, arith, length-take-le, sym, ap, ◌∙◌, append_assoc}
 use Rattle.std.proofs.KnownBytes.{Consumes-whole, Consumes-trans}
 use lib.Seq.{take-append_seam}
-use Rattle.capture_files.specs.declared.record.TheConstants.{MAX_FRAME_LEN}
 use Rattle.capture_files.specs.Record.{frame_of, behind}
 use Rattle.capture_files.specs.Capture.{stopped, with_frame, records_of}
 use Rattle.capture_files.proofs.Records.{unfinished, refusal_of-none, records_of-refused, records_of-cut, records_of-frame}
@@ -20,7 +19,7 @@ returns-in-Whole-clause-reads g c =
     let front = c.in_ok-header.ensures.reads in
     let allowed = sym c.refusal.ensures ∙ c.in_default.is in
     let body = c.fill.new.buf in
-    let short : c.in_ok-header.header.captured_len ≤ MAX_FRAME_LEN = refusal_of-none c.args.progress c.in_ok-header.header.captured_len allowed in
+    let short : c.in_ok-header.header.captured_len ≤ 262144 = refusal_of-none c.args.progress c.in_ok-header.header.captured_len allowed in
     let len : length body ≡ c.in_ok-header.header.captured_len = omega (arith, length-take-le c.in_ok-header.header.captured_len c.args.buf.now (omega arith)) in
     let shown : take c.in_ok-header.header.captured_len (body ++ drop c.in_ok-header.header.captured_len c.args.buf.now) ≡ body =
     ap (λ n. take n (body ++ drop c.in_ok-header.header.captured_len c.args.buf.now)) (sym len) ∙ take-append_seam body _ in
@@ -37,7 +36,7 @@ returns-in-Cut-clause-reads g c =
     let front = c.in_ok-header.ensures.reads in
     let filled = c.in-Cut.ensures.fills.bytes in
     let allowed = sym c.refusal.ensures ∙ c.in_default.is in
-    let short : c.in_ok-header.header.captured_len ≤ MAX_FRAME_LEN = refusal_of-none c.args.progress c.in_ok-header.header.captured_len allowed in
+    let short : c.in_ok-header.header.captured_len ≤ 262144 = refusal_of-none c.args.progress c.in_ok-header.header.captured_len allowed in
     let len : length c.fill.new.buf ≡ c.in_ok-header.header.captured_len = omega (arith, length-take-le c.in_ok-header.header.captured_len c.args.buf.now (omega arith)) in
     let body = take c.in-Cut.got c.fill.new.buf in
     let few : length body < c.in_ok-header.header.captured_len = omega (arith, length-take-le c.in-Cut.got c.fill.new.buf (omega arith)) in
@@ -49,7 +48,7 @@ returns-in-Fault-clause-reads g c =
     let front = c.in_ok-header.ensures.reads in
     let filled = c.in-Fault.ensures.fills.bytes in
     let allowed = sym c.refusal.ensures ∙ c.in_default.is in
-    let short : c.in_ok-header.header.captured_len ≤ MAX_FRAME_LEN = refusal_of-none c.args.progress c.in_ok-header.header.captured_len allowed in
+    let short : c.in_ok-header.header.captured_len ≤ 262144 = refusal_of-none c.args.progress c.in_ok-header.header.captured_len allowed in
     let len : length c.fill.new.buf ≡ c.in_ok-header.header.captured_len = omega (arith, length-take-le c.in_ok-header.header.captured_len c.args.buf.now (omega arith)) in
     let body = take filled.0 c.fill.new.buf in
     let few : length body < c.in_ok-header.header.captured_len = omega (arith, length-take-le filled.0 c.fill.new.buf (omega arith)) in
