@@ -23,7 +23,8 @@ use Rattle.adapter.specs.declared.call.Op.{Op}
 use Rattle.adapter.specs.declared.call.Op.TheVariants as ops
 use Rattle.adapter.specs.declared.parcel.Parcel.{Parcel}
 use Rattle.adapter.specs.declared.reply.Totals.{Totals}
-use Rattle.adapter.specs.Entry.{Entry, Asked, Passed}
+use Rattle.adapter.specs.declared.entry.Entry.{Entry}
+use Rattle.adapter.specs.declared.entry.Entry.TheVariants.{Asked, Passed}
 use Rattle.adapter.specs.State.{State, state_of, state_behind, state_after, state_with, opening, created, create_fault, room_fault, first_of, plain, destroyed, is_in_effect}
 use Rattle.adapter.specs.Reply.{answer_of}
 use Rattle.adapter.specs.Counted.{counted, IsBelow, HasRoom}

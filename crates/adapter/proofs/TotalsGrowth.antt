@@ -13,7 +13,8 @@ use Rattle.adapter.specs.declared.reply.Totals.{Totals}
 use Rattle.flow_actions.specs.declared.verdict.Verdict.{Verdict}
 use Rattle.flow_actions.specs.declared.verdict.Fate.{Fate}
 use Rattle.flow_actions.specs.declared.verdict.Fate.TheVariants as fates
-use Rattle.adapter.specs.Entry.{Entry, Asked, Passed}
+use Rattle.adapter.specs.declared.entry.Entry.{Entry}
+use Rattle.adapter.specs.declared.entry.Entry.TheVariants.{Asked, Passed}
 use Rattle.adapter.specs.Totals.{totals_of, queue_totals, passes_by, is_queue, is_any_fate, is_drop}
 use Rattle.adapter.specs.Counted.{counted, IsBelow, HasRoom}
 

@@ -4,7 +4,8 @@ use Rattle.flow_rules.specs.declared.limits.Limits.{Limits}
 use Rattle.adapter.specs.declared.caller.Caller.{Caller}
 use Rattle.adapter.specs.declared.call.Call.{Call}
 use Rattle.adapter.specs.declared.parcel.Parcel.{Parcel}
-use Rattle.adapter.specs.Entry.{Entry, Asked, Passed}
+use Rattle.adapter.specs.declared.entry.Entry.{Entry}
+use Rattle.adapter.specs.declared.entry.Entry.TheVariants.{Asked, Passed}
 use Rattle.adapter.specs.State.{state_of}
 use Rattle.adapter.specs.Reply.{reply_to}
 use Rattle.flow_rules.specs.Walk.{verdict_of}

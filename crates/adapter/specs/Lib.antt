@@ -1,5 +1,4 @@
 pub mod Counted
-pub mod Entry
 pub mod History
 pub mod Reply
 pub mod Rows

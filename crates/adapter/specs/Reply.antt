@@ -9,7 +9,7 @@ use Rattle.adapter.specs.declared.call.Op.TheVariants as ops
 use Rattle.adapter.specs.declared.reply.Reply.{Reply}
 use Rattle.adapter.specs.declared.reply.Totals.{Totals}
 use Rattle.adapter.specs.declared.reply.Reply.TheVariants as replies
-use Rattle.adapter.specs.Entry.{Entry}
+use Rattle.adapter.specs.declared.entry.Entry.{Entry}
 use Rattle.adapter.specs.State.{State, state_of, create_fault, is_in_effect, plain}
 use Rattle.adapter.specs.Rows.{row_of}
 use Rattle.adapter.specs.Totals.{totals_of}

@@ -3,7 +3,8 @@ use Rattle.std.specs.Prelude.{◌≡◌, List, [], ◌∷◌, ◌++◌}
 use Rattle.flow_rules.specs.declared.limits.Limits.{Limits}
 use Rattle.adapter.specs.declared.entry.EntryView.{EntryView}
 use Rattle.adapter.specs.declared.entry.EntryView.TheVariants as views
-use Rattle.adapter.specs.Entry.{Entry, Asked, Passed}
+use Rattle.adapter.specs.declared.entry.Entry.{Entry}
+use Rattle.adapter.specs.declared.entry.Entry.TheVariants.{Asked, Passed}
 
 -- its limits and its history
 pub record Seen : Type 0 where
@@ -15,6 +16,16 @@ abbrev pub entry_of : EntryView → Entry
 entry_of (views.Asked caller call reply) = Asked caller call.now reply.now
 entry_of (views.Passed caller parcel verdict) = Passed caller parcel.now verdict.now
 
--- the history grew by just this entry, and nothing else changed
+-- the history grew by these entries, under the same limits
+pub record Grows (old new : Seen) (entries : List Entry) : Type 0 where
+  pub limits : new.limits ≡ old.limits
+  pub history : new.history ≡ old.history ++ entries
+
+-- the history grew by just this entry
 abbrev pub Enters : Seen → Seen → Entry → Type 0
-Enters old new entry = new ≡ record old { history = old.history ++ entry ∷ [] }
+Enters old new entry = Grows old new (entry ∷ [])
+
+-- the history and its limits are as they were
+pub record Stays (old new : Seen) : Type 0 where
+  pub limits : new.limits ≡ old.limits
+  pub history : new.history ≡ old.history

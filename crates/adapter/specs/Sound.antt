@@ -6,7 +6,7 @@ use Rattle.flow_rules.specs.Valid.{IsOnPort}
 use Rattle.flow_rules.specs.Walk.{Flows}
 use Rattle.adapter.specs.declared.reply.Totals.{Totals}
 use Rattle.adapter.specs.declared.adapter.Adapter.TheInside.{Inside}
-use Rattle.adapter.specs.Entry.{Entry}
+use Rattle.adapter.specs.declared.entry.Entry.{Entry}
 use Rattle.adapter.specs.Seen.{Seen}
 use Rattle.adapter.specs.State.{state_of}
 use Rattle.adapter.specs.Totals.{totals_of}

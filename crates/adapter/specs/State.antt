@@ -13,7 +13,8 @@ use Rattle.flow_rules.specs.Walk.{Flows}
 use Rattle.flow_rules.specs.Changes.{has_id, changed}
 use Rattle.adapter.specs.declared.call.Op.{Op}
 use Rattle.adapter.specs.declared.call.Op.TheVariants as ops
-use Rattle.adapter.specs.Entry.{Entry, Asked, Passed}
+use Rattle.adapter.specs.declared.entry.Entry.{Entry}
+use Rattle.adapter.specs.declared.entry.Entry.TheVariants.{Asked, Passed}
 
 -- what packets see, and the number of rule ids that were given
 pub record State : Type 0 where

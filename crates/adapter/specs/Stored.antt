@@ -3,7 +3,8 @@ use Rattle.std.specs.Prelude.{List, map}
 use Rattle.adapter.specs.declared.history.Stored.{Stored}
 use Rattle.adapter.specs.declared.history.Stored.TheVariants as stored
 use Rattle.adapter.specs.declared.history.History.TheInside.{Inside}
-use Rattle.adapter.specs.Entry.{Entry, Asked, Passed}
+use Rattle.adapter.specs.declared.entry.Entry.{Entry}
+use Rattle.adapter.specs.declared.entry.Entry.TheVariants.{Asked, Passed}
 
 abbrev pub entry_kept : Stored → Entry
 entry_kept (stored.Asked asked) = Asked asked.value.caller asked.value.call asked.value.reply

@@ -1,7 +1,7 @@
 //! The adapter: the rules in effect, and the history of all that was asked and of all frames that passed.
 ghost use Rattle.std.specs.Prelude.{◌≡◌, ◌<◌, ◌≤◌, ◌^◌, [], ◌∷◌, ◌++◌, length, slice_get, Some, IfOk, OnOk, OnErr};
-ghost use Rattle.adapter.specs.Entry.{Asked, Passed};
-ghost use Rattle.adapter.specs.Seen.{Enters, entry_of};
+ghost use Rattle.adapter.specs.declared.entry.Entry.TheVariants.{Asked, Passed};
+ghost use Rattle.adapter.specs.Seen.{Enters, Stays, entry_of};
 
 use crate::call::Call;
 use crate::caller::Caller;
@@ -87,7 +87,7 @@ impl Adapter {
         requires { caller.0 ≤ 8 }
         ensures entered { IfOk result (λ reply. Enters self.old self.new (Asked caller call.now reply)) }
         ensures reply { IfOk result (λ reply. reply ≡ reply_to self.old.limits self.old.history call.now.op) }
-        ensures err { OnErr result (self.new ≡ self.old) }
+        ensures err { OnErr result (Stays self.old self.new) }
     {
         if self.history.len() >= MAX_ENTRIES {
             return Err(AllocError);
@@ -119,7 +119,7 @@ impl Adapter {
         requires worker { (9 ≤ caller.0) × (caller.0 ≤ 24) }
         requires verdict { verdict.now ≡ verdict_of (state_of self.old.limits self.old.history).flows parcel.now.key }
         ensures entered { OnOk result (Enters self.old self.new (Passed caller parcel.now verdict.now)) }
-        ensures err { OnErr result (self.new ≡ self.old) }
+        ensures err { OnErr result (Stays self.old self.new) }
     {
         if self.history.len() >= MAX_ENTRIES {
             return Err(AllocError);

@@ -1,7 +1,7 @@
 //! Who makes a call or lets a frame pass.
 
 /// A caller: the shell is 0, the agent of flow queue q (0 to 7) is 1 + q, packet worker w (0 to 15) is 9 + w.
-#[derive(Clone, Copy, Debug, PartialEq, Eq)]
+#[derive(Clone, Copy, Debug, Default, PartialEq, Eq)]
 pub struct Caller(pub u8);
 
 impl Caller {

@@ -5,6 +5,14 @@ use crate::parcel::Parcel;
 use crate::reply::Reply;
 use flow_actions::Verdict;
 
+/// An entry: a call that was asked, with its reply, or a frame that passed, with its verdict. Contracts see a history
+/// as a list of these.
+#[derive(Drop)]
+pub enum Entry {
+    Asked(Caller, Call, Reply),
+    Passed(Caller, Parcel, Verdict),
+}
+
 /// An entry, lent by the adapter that keeps it.
 #[derive(Clone, Copy)]
 pub enum EntryView<'a> {

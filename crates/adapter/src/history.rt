@@ -1,6 +1,6 @@
 //! The list of entries. A call lies in a box of its own, so that the many entries of frames stay small.
 ghost use Rattle.std.specs.Prelude.{◌≡◌, ◌<◌, [], ◌∷◌, ◌++◌, length, slice_get, Some, OnOk, OnErr, vec_len};
-ghost use Rattle.adapter.specs.Entry.{Asked, Passed};
+ghost use Rattle.adapter.specs.declared.entry.Entry.TheVariants.{Asked, Passed};
 ghost use Rattle.adapter.specs.Seen.{entry_of};
 
 use crate::call::Call;
@@ -33,7 +33,7 @@ pub(crate) struct History {
 
 impl Model for History {
     ghost use Rattle.std.specs.Prelude.{List};
-    ghost use Rattle.adapter.specs.Entry.{Entry};
+    ghost use Rattle.adapter.specs.declared.entry.Entry.{Entry};
 
     ghost Value = { List Entry };
 

@@ -19,7 +19,7 @@
 //! `packet` take what they need before they change anything. A history has at most 2^32 entries; the call that would pass
 //! this answers want of memory.
 //!
-//! The definitions stand in `specs/`: `Entry` and `History` (what is legal), `State` (what calls do), `Reply` (what they
+//! The definitions stand in `specs/`: `History` (what is legal), `State` (what calls do), `Reply` (what they
 //! answer), `Rows` (what a list of rules tells), `Totals`; what rules do to frames stands in `flow_rules`. A later command
 //! adds a case to `State` and `Reply`; nothing above these two words looks inside.
 //!
@@ -44,7 +44,7 @@ mod walk;
 pub use adapter::Adapter;
 pub use call::{At, BadKind, Call, Op};
 pub use caller::Caller;
-pub use entry::EntryView;
+pub use entry::{Entry, EntryView};
 pub use parcel::Parcel;
 pub use reply::{Reply, Totals};
 pub use rows::{ListRow, RuleList};

@@ -5,16 +5,17 @@ use arrayvec::ArrayVec;
 use std::alloc::AllocError;
 
 /// Where a frame ends.
-#[derive(Clone, Copy, Debug, PartialEq, Eq)]
+#[derive(Clone, Copy, Debug, Default, PartialEq, Eq)]
 pub enum Fate {
     /// It is delivered to this Rx queue.
     Queue(u8),
     /// It is dropped.
+    #[default]
     Drop,
 }
 
 /// The verdict on a frame: its fate, the mark and the RSS hash where it has them, and the ids of the rules on its way.
-#[derive(Drop)]
+#[derive(Default, Drop)]
 pub struct Verdict {
     pub fate: Fate,
     pub mark: Option<u32>,

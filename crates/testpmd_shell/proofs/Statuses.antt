@@ -4,7 +4,7 @@ use Rattle.std.specs.Prelude.{◌⊎◌}
 use Rattle.std.specs.Io.KnownBytes.{Appends}
 use Rattle.io_edges.specs.ShelfState.{ShelfState}
 use Rattle.io_edges.specs.Front.{TakesFront}
-use Rattle.adapter.specs.Entry.{Entry}
+use Rattle.adapter.specs.declared.entry.Entry.{Entry}
 use Rattle.adapter.specs.Seen.{Seen}
 use Rattle.flow_rules.specs.declared.limits.Limits.{Limits}
 use Rattle.flow_grammar.specs.Program.{program_of}

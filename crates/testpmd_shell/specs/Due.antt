@@ -5,7 +5,7 @@ use Rattle.capture_files.specs.declared.stop.Stop.{Stop}
 use Rattle.capture_files.specs.declared.stop.Stop.TheVariants as stops
 use Rattle.capture_files.specs.Capture.{capture}
 use Rattle.flow_rules.specs.declared.limits.Limits.{Limits}
-use Rattle.adapter.specs.Entry.{Entry}
+use Rattle.adapter.specs.declared.entry.Entry.{Entry}
 use Rattle.flow_grammar.specs.Program.{program_of}
 use Rattle.flow_grammar.specs.Limits.{is_too_large}
 use Rattle.flow_grammar.specs.Reach.{program_asks_stop}

@@ -3,7 +3,7 @@ use Rattle.std.specs.Prelude.{ℕ, ◌+◌, List, [], ◌∷◌, ◌++◌, lengt
 use Rattle.flow_rules.specs.declared.limits.Limits.{Limits}
 use Rattle.adapter.specs.declared.caller.Caller.{Caller}
 use Rattle.adapter.specs.declared.call.Call.{Call}
-use Rattle.adapter.specs.Entry.{Entry}
+use Rattle.adapter.specs.declared.entry.Entry.{Entry}
 use Rattle.adapter.specs.History.{asked_by, passed_by}
 use Rattle.flow_grammar.specs.declared.part.Part.{Part}
 use Rattle.flow_grammar.specs.declared.part.Part.TheVariants.{Section, Phase}

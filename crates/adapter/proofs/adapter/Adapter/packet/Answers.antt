@@ -1,6 +1,6 @@
 use Rattle.std.proofs.Common.{◌<◌, ◌^◌, length, sym, ap, ◌∙◌, subst, arith, List}
 use Rattle.flow_rules.specs.Walk.{verdict_of}
-use Rattle.adapter.specs.Entry.{Entry}
+use Rattle.adapter.specs.declared.entry.Entry.{Entry}
 use Rattle.adapter.specs.Seen.{Seen}
 use Rattle.adapter.specs.State.{state_of}
 use Rattle.adapter.specs.Sound.{Sound, flows_of}

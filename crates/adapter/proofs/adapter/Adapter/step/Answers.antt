@@ -2,7 +2,8 @@ use Rattle.std.proofs.Common.{rules, ◌≡◌, ◌<◌, ◌^◌, ◌++◌, ◌�
 use Rattle.flow_rules.specs.declared.change.Change.{Change}
 use Rattle.flow_rules.specs.RuleView.{RuleView}
 use Rattle.adapter.specs.declared.reply.Reply.{Reply}
-use Rattle.adapter.specs.Entry.{Entry, Asked}
+use Rattle.adapter.specs.declared.entry.Entry.{Entry}
+use Rattle.adapter.specs.declared.entry.Entry.TheVariants.{Asked}
 use Rattle.adapter.specs.State.{State, state_with, change_by}
 use Rattle.adapter.specs.Reply.{answer_of}
 use Rattle.adapter.specs.Sound.{Sound}
