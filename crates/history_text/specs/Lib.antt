@@ -3,5 +3,6 @@ pub mod Totals
 pub mod Causes
 pub mod Replies
 pub mod Verdicts
+pub mod Endings
 pub mod Text
 pub mod Rows

@@ -1,12 +1,12 @@
 -- The transcript of a history: a line for each entry, and a line of totals.
-use Rattle.std.specs.Prelude.{ℕ, List, [], ◌++◌, codes, decimal}
+use Rattle.std.specs.Prelude.{ℕ, List, ◌++◌, codes, decimal}
 use Rattle.std.specs.List.{flat_map}
 use Rattle.flow_rules.specs.declared.limits.Limits.{Limits}
 use Rattle.adapter.specs.declared.entry.Entry.{Entry}
 use Rattle.adapter.specs.declared.entry.Entry.TheVariants.{Asked, Passed}
 use Rattle.adapter.specs.Totals.{totals_of}
 use Rattle.history_text.specs.declared.ending.Ending.{Ending}
-use Rattle.history_text.specs.declared.ending.Ending.TheVariants as endings
+use Rattle.history_text.specs.Endings.{ending_text}
 use Rattle.history_text.specs.Callers.{caller_text}
 use Rattle.history_text.specs.Totals.{totals_text}
 use Rattle.history_text.specs.Replies.{reply_text}
@@ -17,10 +17,6 @@ entry_text limits (Asked caller call reply) = caller_text caller ++ (codes " " +
     ++ (codes "." ++ (decimal call.at.part ++ (codes ": " ++ (reply_text limits reply ++ codes "\n"))))))
 entry_text limits (Passed caller parcel verdict) = caller_text caller ++ (codes " #" ++ (decimal parcel.number
     ++ (codes ": " ++ (verdict_text verdict ++ codes "\n"))))
-
--- a capture that was read as far as it was asked for has no line
-abbrev pub ending_text : Ending → List ℕ
-ending_text endings.Whole = []
 
 -- what stands behind the last entry
 abbrev pub end_text : Limits → List Entry → Ending → List ℕ

@@ -1,9 +1,9 @@
 //! The transcript of a history: what the program prints at its end.
 //!
 //! A history is a list of entries, each a call with its reply or a frame with its verdict. Its transcript is a text of
-//! lines: one for each entry in order, and then one with the totals. Each line is made of the entry alone, and of the
-//! number of Rx queues, so the transcript of a history is the lines of its entries joined, and so it is defined
-//! (`specs/Text.antt`, with the parts of a line in the files beside it).
+//! lines: one for each entry in order, then one with the totals, and one more where the capture stopped early. An entry's
+//! line is made of the entry alone, and of the number of Rx queues, so the transcript of a history is the lines of its
+//! entries joined, and so it is defined (`specs/Text.antt`, with the parts of a line in the files beside it).
 //!
 //! The naive way is to make that text in memory and then to write it. A history of a million frames has some fifty
 //! million bytes of it, and a refused growth in the middle would lose a transcript that could still be printed. So each
@@ -21,9 +21,10 @@
 //! - `cause`: the table of error types, their causes and texts, and a refusal (`specs/Causes.antt`),
 //! - `row`: a list of rules, a line each (`specs/Rows.antt`),
 //! - `totals`, `reply`, `verdict` (`specs/Totals.antt`, `specs/Replies.antt`, `specs/Verdicts.antt`),
+//! - `ending`: the line of a capture that stopped early (`specs/Endings.antt`),
 //! - `transcript`: an entry's line, and the whole (`specs/Text.antt`).
 //!
-//! Not done here: reading a transcript back, and the lines of a capture that stopped early.
+//! Not done here: reading a transcript back.
 #![tactic(auto)]
 
 mod caller;

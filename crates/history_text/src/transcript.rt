@@ -10,7 +10,7 @@ ghost use Rattle.adapter.specs.Seen.{entry_of};
 ghost use Rattle.history_text.specs.Text.{entry_text, end_text, text_of};
 
 use crate::caller::print_caller;
-use crate::ending::Ending;
+use crate::ending::{Ending, print_ending};
 use crate::reply::print_reply;
 use crate::totals::print_totals;
 use crate::verdict::print_verdict;
@@ -94,9 +94,7 @@ fn print_end<K: Sink>(sink: &mut K, page: &mut Page, adapter: &Adapter, ending: 
     print(sink, page, b"total ");
     print_totals(sink, page, adapter.limits(), &adapter.totals());
     print(sink, page, b"\n");
-    match ending {
-        Ending::Whole => {}
-    }
+    print_ending(sink, page, ending);
 }
 
 #[cfg(test)]
