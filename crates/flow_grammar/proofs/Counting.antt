@@ -16,7 +16,7 @@ use Rattle.flow_grammar.specs.Draft.{program_with, open_calls, IsCounted}
 pub calls_in-append : (a b : List Part) → calls_in (a ++ b) ≡ calls_in a + calls_in b
 calls_in-append [] b = sym (zero-add (calls_in b))
 calls_in-append (parts.Section calls ∷ a) b = let step = calls_in-append a b in omega (arith, step)
-calls_in-append (parts.Phase opening count shell closing ∷ a) b = let step = calls_in-append a b in omega (arith, step)
+calls_in-append (parts.Phase opening count shell agents closing ∷ a) b = let step = calls_in-append a b in omega (arith, step)
 
 pub calls_in-section : (calls : List Call) → calls_in (section_of calls) ≡ length calls
 calls_in-section [] = refl

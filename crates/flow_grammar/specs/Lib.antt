@@ -5,6 +5,5 @@ pub mod Limits
 pub mod Line
 pub mod Lines
 pub mod Program
-pub mod Reach
-pub mod Whole
+pub mod Calls
 pub mod Words

@@ -40,10 +40,14 @@ abbrev pub section_of : List Call → List Part
 section_of [] = []
 section_of (call ∷ calls) = parts.Section (call ∷ calls) ∷ []
 
+-- the calls of the eight agents, of which no line is one's so far
+abbrev pub no_agent_calls : List (List Call)
+no_agent_calls = [] ∷ [] ∷ [] ∷ [] ∷ [] ∷ [] ∷ [] ∷ [] ∷ []
+
 -- the phase that a line closes, or the end of the script as the line behind the last one
 abbrev pub phase_of : Opening → List Call → ℕ → Part
 phase_of opening calls line =
-    parts.Phase (call_at opening.line 1 (ops.Start opening.count)) opening.count calls (call_at line 1 ops.Stop)
+    parts.Phase (call_at opening.line 1 (ops.Start opening.count)) opening.count calls no_agent_calls (call_at line 1 ops.Stop)
 
 -- The parts of the lines from number n on. Before them stand the calls of a section, or of the phase that is open.
 -- `quit` ends the script, and first closes the phase that is open. A line that neither opens nor closes a phase, nor ends

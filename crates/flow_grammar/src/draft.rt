@@ -2,11 +2,10 @@
 ghost use Rattle.std.specs.Prelude.{◌≡◌, ◌+◌, ◌≤◌, ◌^◌, ◌<◌, ◌∷◌, ◌++◌, [], IfOk, OnOk, length};
 ghost use Rattle.flow_grammar.specs.Draft.{program_with, TakesIn, IsCounted};
 ghost use Rattle.flow_grammar.specs.Program as spec;
-ghost use Rattle.flow_grammar.specs.Program.{calls_at, section_of, phase_of};
+ghost use Rattle.flow_grammar.specs.Program.{calls_at, section_of, phase_of, no_agent_calls};
 
 use crate::call_list::CallList;
 use crate::line::Line;
-use crate::op_list::MOST_OPS;
 use crate::part::{Part, Program};
 use adapter::{At, BadKind, Call, Op};
 use std::alloc::{AllocError, Global};
@@ -168,6 +167,7 @@ impl Draft {
             opening: call_at(opening.line, 1, Op::Start(opening.count)),
             count: opening.count,
             shell,
+            agents: no_calls(alloc),
             closing: call_at(number, 1, Op::Stop),
         })?;
         Ok(())
@@ -191,6 +191,22 @@ impl Draft {
     }
 }
 
+/// The calls of eight agents that have none.
+fn no_calls(alloc: Global) -> [CallList; 8]
+    ensures { result ≡ no_agent_calls }
+{
+    [
+        CallList::new(alloc),
+        CallList::new(alloc),
+        CallList::new(alloc),
+        CallList::new(alloc),
+        CallList::new(alloc),
+        CallList::new(alloc),
+        CallList::new(alloc),
+        CallList::new(alloc),
+    ]
+}
+
 fn call_at(line: u32, part: u16, op: Op) -> Call
     ensures { result ≡ spec.call_at line part op }
 {
@@ -202,7 +218,7 @@ fn call_at(line: u32, part: u16, op: Op) -> Call
 
 /// Puts the calls of a line behind the others.
 fn add_ops(calls: &mut CallList, line: u32, ops: &[Op]) -> Result<(), AllocError>
-    requires { length ops.now ≤ MOST_OPS }
+    requires { length ops.now ≤ 64 }
     ensures { OnOk result (calls.new ≡ calls.old ++ calls_at line 1 ops.now) }
 {
     let mut part: u16 = 1;

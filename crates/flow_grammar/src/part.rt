@@ -10,13 +10,15 @@ use std::marker::Model;
 pub enum Part {
     /// Calls of the shell up to the next phase, at least one.
     Section(CallList),
-    /// A phase over `count` of the frames that remain, or over all of them. Its lines are the shell's.
+    /// A phase over `count` of the frames that remain, or over all of them.
     Phase {
         /// The call that opens it.
         opening: Call,
         count: Option<u32>,
         /// The shell's calls in the phase.
         shell: CallList,
+        /// The calls of the agents of the flow queues 0 to 7. No line is an agent's so far.
+        agents: [CallList; 8],
         /// The call that closes it: the script's own, or one behind its last line.
         closing: Call,
     },

@@ -11,11 +11,11 @@ use crate::program_fault::ProgramFault;
 use std::alloc::Global;
 
 /// The most lines of a script, those behind `quit` too: so that the number of a line, and what a line asks for, stay small.
-const MOST_LINES: usize = 65_536;
+const MAX_LINES: usize = 65_536;
 
 /// The most calls of a script, the closings that `quit` and the script's end add among them: a call takes some 6 KB, so
 /// those of the largest script take some 400 MB.
-const MOST_CALLS: usize = 65_536;
+const MAX_CALLS: usize = 65_536;
 
 /// Reads a script: all its lines up to `quit`, or to its end. One with more than 65,536 lines or calls is too large.
 pub fn program(alloc: Global, script: &[u8]) -> Result<Program, ProgramFault>
@@ -24,7 +24,7 @@ pub fn program(alloc: Global, script: &[u8]) -> Result<Program, ProgramFault>
     ensures too_large { result ≡ Err ProgramFault.TooLarge → is_too_large script.now ≡ true }
 {
     let lines = lines_of(alloc, script)?;
-    if lines.len() > MOST_LINES {
+    if lines.len() > MAX_LINES {
         return Err(ProgramFault::TooLarge);
     }
     let mut draft = Draft::new(alloc);
@@ -33,7 +33,7 @@ pub fn program(alloc: Global, script: &[u8]) -> Result<Program, ProgramFault>
         let said = read_line(alloc, without_carriage_return(line))?;
         let ended = draft.add(alloc, number, said)?;
         number += 1;
-        if draft.count() > MOST_CALLS {
+        if draft.count() > MAX_CALLS {
             return Err(ProgramFault::TooLarge);
         }
         if ended {

@@ -32,6 +32,7 @@ fn show_part(out: &mut String, part: &Part) -> Result<(), AllocError> {
             count,
             shell,
             closing,
+            ..
         } => {
             out.push_str(if count.is_some() { "some" } else { "phase" })?;
             show_call(out, opening)?;
