@@ -1,0 +1,3 @@
+pub mod LegalSerial
+pub mod Telling
+pub mod WholeSerial

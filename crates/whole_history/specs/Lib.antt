@@ -1,0 +1,4 @@
+pub mod Entries
+pub mod Reach
+pub mod Whole
+pub mod Serial
