@@ -8,3 +8,4 @@ pub mod Calls
 pub mod Making
 pub mod Draining
 pub mod SharedPasses
+pub mod Permuted

@@ -1,6 +1,7 @@
 -- A ring and its passes: between two calls, new, and at the end.
 use Rattle.std.specs.Prelude.{◌≡◌, ℕ, ◌+◌, ◌<◌, ◌==◌, List, [], ◌∷◌, ◌++◌, length, map, All, Contains, Some, None}
 use Rattle.std.specs.List.{sum_by, count_by}
+use Rattle.std.specs.List.Sorted.{IsPermutation}
 use Rattle.crossbeam_queue.specs.Fifo.{Held}
 use Rattle.crossbeam_queue.specs.Passes.{view, ruled_capacity}
 use Rattle.crossbeam_queue.specs.Passes as queue
@@ -82,10 +83,11 @@ count_of number frames = count_by (λ f. f.number == number) frames
 abbrev pub IsOnce : RingPasses → Type 0
 IsOnce list = (number : ℕ) → Contains (map (λ f. f.number) (offered_in list)) number → count_of number (grabbed_in list ++ drained_in list ++ left_in list) ≡ 1
 
--- The same where none is left
+-- The same where none is left: what was offered is what was grabbed and drained, in another order
 pub record IsSettled (list : RingPasses) : Type 0 where
   pub whole : (h : Frame → ℕ) → sum_by h (offered_in list) ≡ sum_by h (grabbed_in list ++ drained_in list)
   pub once : (number : ℕ) → Contains (map (λ f. f.number) (offered_in list)) number → count_of number (grabbed_in list ++ drained_in list) ≡ 1
+  pub permuted : IsPermutation (offered_in list) (grabbed_in list ++ drained_in list)
 
 -- Numbers rise above the ring's floor, of what was offered, and of what each pass grabbed with what was drained behind it
 pub record AreRows (r : FrameRing) (list : RingPasses) : Type 0 where

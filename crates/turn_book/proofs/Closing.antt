@@ -1,5 +1,5 @@
 -- From the table's end to what `close` says of the seats.
-use Rattle.std.proofs.Common.{◌≡◌, ℕ, suc, List, [], ◌∷◌, ◌++◌, map, length, drop, get_or, All, Contains, Option, Some, None, false, option_to_list, sym, refl, ap, ◌∙◌, subst, ⊎_elim, append_assoc, arith}
+use Rattle.std.proofs.Common.{◌≡◌, ℕ, suc, ◌<◌, List, [], ◌∷◌, ◌++◌, map, length, drop, get_or, All, Contains, Option, Some, None, false, option_to_list, sym, refl, ap, ◌∙◌, subst, ⊎_elim, append_assoc, arith}
 use Rattle.std.proofs.lemmas.List.Elements.{All-nil, All-cons, All-pop}
 use Rattle.std.proofs.lemmas.List.{map-append}
 use mathlib.Core.Option.{some, some-injective}
@@ -77,6 +77,9 @@ module _ {M E F : Type 0} (entries : M → List E) (fixed : M → F) (owner : F 
       let s = get_or (seats_in list) k d in
       let saw = saws k d lt in
       own_stays (owner (fixed (opened b))) s.number (entries (opened b)) (seen s) saw.0 (entries value) (all.2 k d lt).2 saw.1 saw.2
+
+  pub closes_all : (n : ℕ) → n < b.table.shared.key.1 → Contains (map (λ (s : Seat M E F). s.number) (seats_in list)) n
+  closes_all n lt = each_contains (seats_in list) n (fin.numbers n lt)
 
   pub closes_owned : OwnedBySeats entries fixed owner b list (entries value)
   closes_owned =

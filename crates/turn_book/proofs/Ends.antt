@@ -102,6 +102,7 @@ module _ {M E F : Type 0} (entries : M → List E) (fixed : M → F) (owner : F 
     pub seen : Each (Saw (owner (fixed start)) (entries value)) ps
     pub since : List E
     pub whole : entries value ≡ entries start ++ since
+    pub numbers : (n : ℕ) → n < seats → SomeOf (λ p. p.number ≡ n) ps
     pub owned : Each (λ e. SomeOf (λ p. p.number ≡ owner (fixed start) e) ps) since
 
   pub ends : (id : ℕ) (ps : List (Place E)) (o : List E) (f : Option F) (words : List ℕ) (slots : List (Option M)) → length ps ≡ seats → Final (Seen Rule id (knows ps None false o f)) words slots → Ends ps slots
@@ -119,6 +120,9 @@ module _ {M E F : Type 0} (entries : M → List E) (fixed : M → F) (owner : F 
       true≢false (sym served ∙ ap (λ (x : Knows E F). x.served) (some-injective u v equal)))
       (λ ne. let one = ((k.fits j u there).turn served).1 in not_one one.0 (sym (bare j u ne there) ∙ one.1))
       (which j id) in
+      let numbers : (n : ℕ) → n < seats → SomeOf (λ p. p.number ≡ n) ps
+      = λ n lt. times_some n ps
+      (let one = k.carried n lt in let sum = total_alone (λ (u : Knows E F). times n u.own) s.views id v at (λ j u ne there. ap (times n) (bare j u ne there)) in omega arith) in
       let home : AtHome entries fixed (fixed start) (entries start ++ k.since) s.homes s.views = ⊎_elim (λ home. home) (λ away. absurd (not_out away.1.0 away.1.1 away.1.2 away.1.3)) k.slot in
       record {
         value = home.0;
@@ -127,8 +131,6 @@ module _ {M E F : Type 0} (entries : M → List E) (fixed : M → F) (owner : F 
         seen = each_as _ (Saw (owner (fixed start)) (entries home.0)) (λ p h. subst (λ x. Saw (owner (fixed start)) x p) (sym home.2) h.0) ps (k.fits id v at).places;
         since = k.since;
         whole = home.2;
-        owned = each_as (λ e. owner (fixed start) e < seats) (λ e. SomeOf (λ p. p.number ≡ owner (fixed start) e) ps)
-            (λ e lt. times_some (owner (fixed start) e) ps
-            (let n = owner (fixed start) e in let one = k.carried n lt in let sum = total_alone (λ (u : Knows E F). times n u.own) s.views id v at (λ j u ne there. ap (times n) (bare j u ne there)) in omega arith))
-            k.since k.owned;
+        numbers = numbers;
+        owned = each_as (λ e. owner (fixed start) e < seats) (λ e. SomeOf (λ p. p.number ≡ owner (fixed start) e) ps) (λ e lt. numbers (owner (fixed start) e) lt) k.since k.owned;
       }

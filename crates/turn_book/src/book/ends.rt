@@ -1,5 +1,5 @@
 // How a book is made with its seats, and how it is closed.
-ghost use Rattle.std.specs.Prelude.{◌≡◌, ◌+◌, ◌<◌, ◌≤◌, [], ◌∷◌, false, None, Some, map, length, All, IfOk, IfErr, vec_capacity};
+ghost use Rattle.std.specs.Prelude.{◌≡◌, ℕ, ◌+◌, ◌<◌, ◌≤◌, [], ◌∷◌, false, None, Some, map, length, All, Contains, IfOk, IfErr, vec_capacity};
 ghost use Rattle.std.specs.List.{range_with_len};
 ghost use Rattle.turn_book.specs.Views.{BeginsWith, knows};
 ghost use Rattle.turn_book.specs.Rule.{beginning};
@@ -87,6 +87,7 @@ impl<M: Entries> Book<M> {
         ensures seen { All (λ s. BeginsWith (M.entries result) (seen s)) (seats_in seats) }
         ensures own { All (HasOwn M.entries M.fixed M.owner self (M.entries result)) (seats_in seats) }
         ensures owned { OwnedBySeats M.entries M.fixed M.owner self seats (M.entries result) }
+        ensures all { (number : ℕ) → number < seats_of self → Contains (map (λ s. s.number) (seats_in seats)) number }
     {
         let token = self.gather_all(seats);
         let Book { table } = self;

@@ -3,6 +3,7 @@ use Rattle.crossbeam_queue.specs.Passes.{view}
 use Rattle.frame_ring.specs.FreeRule.{FreeMoment}
 use Rattle.frame_ring.specs.Passes.{frames_in, counts_in}
 use Rattle.frame_ring.proofs.Calls.{ring_learns}
+use Rattle.frame_ring.proofs.Permuted.{IsPermutation-row}
 use Rattle.frame_ring.proofs.Draining.{drains_from, drained_by, whole, once, settled, none_left, rows, balanced}
 use Rattle.frame_ring.proofs.ring.FrameRing.drain.Goals as goal
 
@@ -52,7 +53,12 @@ pub returns-clause-settled : goal.returns-clause-settled
 returns-clause-settled g c = λ none.
     let told = drained_by c.args.self.now c.args.passes.now c.gather-all.result (view c.pop_as-frame.new.pass) c.pop_as-frame.result c.gather-all.ensures.all c.pop_as-frame.ensures.rule in
     let end = settled _ _ _ _ told.told (none_left _ _ _ told.left (told.none.0 none)) in
-    record { whole = end.0; once = end.1 }
+    let rise = rows _ _ _ _ told.told in
+    record {
+      whole = end.0;
+      once = end.1;
+      permuted = IsPermutation-row _ _ _ rise.0 end.0;
+    }
 
 pub returns-clause-balance : goal.returns-clause-balance
 returns-clause-balance g c =
