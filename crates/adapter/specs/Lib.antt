@@ -1,5 +1,6 @@
 pub mod Counted
 pub mod History
+pub mod Kept
 pub mod Reply
 pub mod Rows
 pub mod Scan
@@ -7,5 +8,4 @@ pub mod Seen
 pub mod Sound
 pub mod Standing
 pub mod State
-pub mod Stored
 pub mod Totals

@@ -11,10 +11,10 @@ pub record Seen : Type 0 where
   pub limits : Limits
   pub history : List Entry
 
--- the entry behind a view
+-- the entry that a view shows
 abbrev pub entry_of : EntryView → Entry
 entry_of (views.Asked caller call reply) = Asked caller call.now reply.now
-entry_of (views.Passed caller parcel verdict) = Passed caller parcel.now verdict.now
+entry_of (views.Passed caller parcel verdict) = Passed caller parcel verdict
 
 -- the history grew by these entries, under the same limits
 pub record Grows (old new : Seen) (entries : List Entry) : Type 0 where

@@ -1,6 +1,7 @@
 //! The calls that a script makes.
 ghost use Rattle.std.specs.Prelude.{◌≡◌};
 
+use crate::held::Held;
 use flow_rules::RuleSpec;
 use std::alloc::AllocError;
 
@@ -28,9 +29,9 @@ pub enum BadKind {
 #[derive(Clone, Debug, Drop)]
 pub enum Op {
     /// `flow validate`: whether a rule would be taken.
-    Validate(RuleSpec),
+    Validate(Held<RuleSpec>),
     /// `flow create`: a rule takes effect.
-    Create(RuleSpec),
+    Create(Held<RuleSpec>),
     /// `flow destroy`: the rule of this id goes.
     Destroy(u32),
     /// `flow flush`: all rules go.

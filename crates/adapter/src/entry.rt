@@ -13,8 +13,8 @@ pub enum Entry {
     Passed(Caller, Parcel, Verdict),
 }
 
-/// An entry, lent by the adapter that keeps it.
-#[derive(Clone, Copy)]
+/// An entry as the adapter shows it: a call is lent by the adapter that keeps it, and a frame is made from what is kept.
+#[derive(Drop)]
 pub enum EntryView<'a> {
     /// A call and its reply.
     Asked {
@@ -25,7 +25,7 @@ pub enum EntryView<'a> {
     /// A frame and its verdict.
     Passed {
         caller: Caller,
-        parcel: &'a Parcel,
-        verdict: &'a Verdict,
+        parcel: Parcel,
+        verdict: Verdict,
     },
 }

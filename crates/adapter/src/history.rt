@@ -1,11 +1,12 @@
-//! The list of entries. A call lies in a box of its own, so that the many entries of frames stay small.
-ghost use Rattle.std.specs.Prelude.{◌≡◌, ◌<◌, [], ◌∷◌, ◌++◌, length, slice_get, Some, OnOk, OnErr, vec_len};
+//! The list of entries.
+ghost use Rattle.std.specs.Prelude.{◌≡◌, ◌<◌, [], ◌∷◌, ◌++◌, length, slice_get, Some, OnOk, OnErr};
 ghost use Rattle.adapter.specs.declared.entry.Entry.TheVariants.{Asked, Passed};
 ghost use Rattle.adapter.specs.Seen.{entry_of};
 
 use crate::call::Call;
 use crate::caller::Caller;
 use crate::entry::EntryView;
+use crate::kept::{Kept, keep_call, keep_frame, show};
 use crate::parcel::Parcel;
 use crate::reply::Reply;
 use flow_actions::Verdict;
@@ -13,22 +14,9 @@ use std::alloc::{AllocError, Global};
 use std::marker::Model;
 
 #[derive(Drop)]
-pub(crate) struct AskedCall {
-    caller: Caller,
-    call: Call,
-    reply: Reply,
-}
-
-#[derive(Drop)]
-pub(crate) enum Stored {
-    Asked(Box<AskedCall>),
-    Passed(Caller, Parcel, Verdict),
-}
-
-#[derive(Drop)]
 pub(crate) struct History {
     alloc: Global,
-    items: Vec<Stored>,
+    items: Vec<Kept>,
 }
 
 impl Model for History {
@@ -37,9 +25,10 @@ impl Model for History {
 
     ghost Value = { List Entry };
 
-    ghost use Rattle.adapter.specs.Stored.{entries_of};
+    ghost use Rattle.std.specs.Prelude.{map};
+    ghost use Rattle.adapter.specs.Kept.{entry_kept};
 
-    ghost view = { entries_of };
+    ghost view = { λ h. map entry_kept h.items.items };
 }
 
 impl History {
@@ -68,16 +57,8 @@ impl History {
         ensures err { OnErr result (self.new ≡ self.old) }
     {
         self.items.reserve(1)?;
-        let call = call.clone()?;
-        let asked = Box::new(
-            self.alloc,
-            AskedCall {
-                caller,
-                call,
-                reply,
-            },
-        )?;
-        self.items.push_reserved(Stored::Asked(asked));
+        let kept = keep_call(self.alloc, caller, call, reply)?;
+        self.items.push_reserved(kept);
         Ok(())
     }
 
@@ -91,10 +72,8 @@ impl History {
         ensures err { OnErr result (self.new ≡ self.old) }
     {
         self.items.reserve(1)?;
-        let parcel = parcel.clone()?;
-        let verdict = verdict.clone()?;
-        self.items
-            .push_reserved(Stored::Passed(caller, parcel, verdict));
+        let kept = keep_frame(self.alloc, caller, parcel, verdict)?;
+        self.items.push_reserved(kept);
         Ok(())
     }
 
@@ -102,17 +81,6 @@ impl History {
         requires { place < length self.now }
         ensures { slice_get self.now place ≡ Some (entry_of result) }
     {
-        match &self.items[place] {
-            Stored::Asked(asked) => EntryView::Asked {
-                caller: asked.caller,
-                call: &asked.call,
-                reply: &asked.reply,
-            },
-            Stored::Passed(caller, parcel, verdict) => EntryView::Passed {
-                caller: *caller,
-                parcel,
-                verdict,
-            },
-        }
+        show(&self.items[place])
     }
 }

@@ -23,7 +23,8 @@
 //! answer), `Rows` (what a list of rules tells), `Totals`; what rules do to frames stands in `flow_rules`. A later command
 //! adds a case to `State` and `Reply`; nothing above these two words looks inside.
 //!
-//! Entries of frames are many, so they are small and lie in the list; a call lies in a box of its own.
+//! Entries of frames are many, so what is kept of them is small (`kept`): `entry` makes the frame and its verdict anew. A
+//! call lies in a box of its own.
 //!
 //! Not done here: reading scripts or captures, printing, threads.
 #![tactic(auto)]
@@ -33,7 +34,9 @@ mod call;
 mod caller;
 mod count;
 mod entry;
+mod held;
 mod history;
+mod kept;
 mod outcome;
 mod parcel;
 mod reply;
@@ -45,6 +48,7 @@ pub use adapter::Adapter;
 pub use call::{At, BadKind, Call, Op};
 pub use caller::Caller;
 pub use entry::{Entry, EntryView};
+pub use held::Held;
 pub use parcel::Parcel;
 pub use reply::{Reply, Totals};
 pub use rows::{ListRow, RuleList};

@@ -12,6 +12,7 @@ ghost use Rattle.adapter.specs.Rows.{row_of, action_kinds};
 ghost use Rattle.adapter.specs.Standing.{state_at};
 
 use crate::call::Op;
+use crate::held::Held;
 use crate::reply::Reply;
 use crate::rows::{ListRow, RuleList};
 use crate::standing::Standing;
@@ -46,14 +47,14 @@ pub(crate) fn judge(alloc: Global, standing: &Standing<'_>, op: &Op) -> Result<O
     ensures change { IfOk result (λ o. o.change ≡ change_by standing.now.limits.now (state_at standing.now) op.now) }
 {
     let judged = match op {
-        Op::Validate(spec) => replies(validated(standing, spec)),
-        Op::Create(spec) => created(standing, spec),
+        Op::Validate(spec) => replies(validated(standing, spec.get())),
+        Op::Create(spec) => created(standing, spec.get()),
         Op::Destroy(id) => destroyed(standing, *id),
         Op::Flush => changes(Reply::Flushed, Change::Flushed),
         Op::List => replies(Reply::Listed(list_of(alloc, standing.rules)?)),
         Op::Isolate(on) => changes(Reply::Isolated(*on), Change::Isolated(*on)),
         Op::Start(_) => replies(Reply::Started),
-        Op::Stop => replies(Reply::Stopped(*standing.totals)),
+        Op::Stop => replies(Reply::Stopped(Held::new(alloc, *standing.totals)?)),
         Op::Quit => replies(Reply::Bye),
         Op::Bad(kind) => replies(Reply::Bad(*kind)),
     };

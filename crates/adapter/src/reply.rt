@@ -1,5 +1,6 @@
 //! What the adapter answers to a call.
 use crate::call::BadKind;
+use crate::held::Held;
 use crate::rows::RuleList;
 use flow_rules::Fault;
 
@@ -27,7 +28,7 @@ pub enum Reply {
     /// Whether frames that no rule takes are dropped from now on.
     Isolated(bool),
     Started,
-    Stopped(Totals),
+    Stopped(Held<Totals>),
     /// The script ends.
     Bye,
     Bad(BadKind),

@@ -6,7 +6,7 @@ use crate::destroys::read_destroys;
 use crate::line::Line;
 use crate::op_list::OpList;
 use crate::words::{are_words, behind};
-use adapter::{BadKind, Op};
+use adapter::{BadKind, Held, Op};
 use flow_actions::Actions;
 use flow_rules::RuleSpec;
 use rule_words::{flag_and_rest, number_of_bits, read_actions, read_attributes, read_items};
@@ -74,6 +74,7 @@ pub(crate) fn validate_form(alloc: Global, words: &[&[u8]]) -> Result<Option<Lin
     let Some((port, rule)) = read_ported_rule(b"validate", words) else {
         return Ok(None);
     };
+    let rule = Held::new(alloc, rule)?;
     let said = flow_line(alloc, port, Op::Validate(rule))?;
     Ok(Some(said))
 }
@@ -85,6 +86,7 @@ pub(crate) fn create_form(alloc: Global, words: &[&[u8]]) -> Result<Option<Line>
     let Some((port, rule)) = read_ported_rule(b"create", words) else {
         return Ok(None);
     };
+    let rule = Held::new(alloc, rule)?;
     let said = flow_line(alloc, port, Op::Create(rule))?;
     Ok(Some(said))
 }

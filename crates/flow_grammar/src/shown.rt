@@ -120,8 +120,8 @@ fn bad_text(kind: BadKind) -> &'static str {
 
 pub(crate) fn show_op(out: &mut String, op: &Op) -> Result<(), AllocError> {
     match op {
-        Op::Validate(rule) => show_rule(out, "validate", rule),
-        Op::Create(rule) => show_rule(out, "create", rule),
+        Op::Validate(rule) => show_rule(out, "validate", rule.get()),
+        Op::Create(rule) => show_rule(out, "create", rule.get()),
         Op::Destroy(id) => {
             let id = *id;
             write!(out, "destroy {id};")

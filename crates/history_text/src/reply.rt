@@ -58,7 +58,7 @@ pub(crate) fn print_reply<K: Sink>(sink: &mut K, page: &mut Page, limits: Limits
         Reply::Started => print(sink, page, b"Packet forwarding started"),
         Reply::Stopped(totals) => {
             print(sink, page, b"Packet forwarding stopped: ");
-            print_totals(sink, page, limits, totals);
+            print_totals(sink, page, limits, totals.get());
         }
         Reply::Bye => print(sink, page, b"Bye"),
         Reply::Bad(kind) => print_bad(sink, page, *kind),

@@ -79,7 +79,7 @@ fn print_entry<K: Sink>(sink: &mut K, page: &mut Page, limits: Limits, entry: En
             print(sink, page, b" #");
             print_number(sink, page, parcel.number);
             print(sink, page, b": ");
-            print_verdict(sink, page, verdict);
+            print_verdict(sink, page, &verdict);
             print(sink, page, b"\n");
         }
     }

@@ -1,7 +1,7 @@
 mod replies;
 
 use super::*;
-use adapter::{At, Call, Caller, Op, Parcel, Reply};
+use adapter::{At, Call, Caller, Held, Op, Parcel, Reply};
 use arrayvec::ArrayVec;
 use flow_actions::{Action, Actions, Fate, Verdict};
 use flow_rules::{Attr, RuleSpec};
@@ -51,7 +51,7 @@ fn one_rule_and_one_frame(rt: HostRuntime) -> Result<(), Fail> {
         flow_max: 4096,
     };
     let mut adapter = Adapter::new(rt.alloc(), limits)?;
-    let create = call(1, Op::Create(rule()));
+    let create = call(1, Op::Create(Held::new(rt.alloc(), rule())?));
     adapter.step(Caller::SHELL, &create)?;
     adapter.step(Caller::SHELL, &call(2, Op::Start(None)))?;
     let parcel = Parcel {
@@ -131,8 +131,8 @@ fn mark_hash_and_path_of_a_dropped_frame(rt: HostRuntime) -> Result<(), Fail> {
     };
     let entry = EntryView::Passed {
         caller: Caller(24),
-        parcel: &parcel,
-        verdict: &verdict,
+        parcel,
+        verdict,
     };
     let mut sink = MemSink::new(rt.alloc(), 1000, None)?;
     let mut page = Page::new();

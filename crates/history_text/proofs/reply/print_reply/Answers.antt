@@ -1,3 +1,6 @@
+use Rattle.std.proofs.Common.{ap}
+use Rattle.adapter.specs.declared.reply.Reply.TheVariants.{Stopped}
+use Rattle.history_text.specs.Replies.{reply_text}
 use Rattle.io_edges.proofs.Joins.{Prints-then, Prints-as}
 use Rattle.history_text.proofs.reply.print_reply.Goals as goal
 
@@ -20,7 +23,10 @@ pub returns-in-Started : goal.returns-in-Started
 returns-in-Started g c = rw c.in-Started.is c.print-in-Started.ensures.prints
 
 pub returns-in-Stopped : goal.returns-in-Stopped
-returns-in-Stopped g c = rw c.in-Stopped.is (Prints-then c.print-in-Stopped.ensures.prints c.print_totals.ensures)
+returns-in-Stopped g c =
+    rw c.in-Stopped.is
+    (Prints-as (ap (λ totals. reply_text c.args.limits (Stopped totals)) c.get.ensures)
+    (Prints-then c.print-in-Stopped.ensures.prints c.print_totals.ensures))
 
 pub returns-in-Bye : goal.returns-in-Bye
 returns-in-Bye g c = rw c.in-Bye.is c.print-in-Bye.ensures.prints

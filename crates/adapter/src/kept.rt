@@ -1,0 +1,238 @@
+//! How a history keeps an entry: small where it is of the usual kind.
+//!
+//! A history has an entry for each frame, a million of them in the largest, so its size is what these entries take. Most
+//! frames have Ethernet and IPv4 without tags or VXLAN, and a way of at most two rules: such an entry is kept in place,
+//! in 88 bytes. The headers of a frame with tags, with IPv6 or of another kind lie in a box of their own, the key of a
+//! frame with VXLAN or with no headers in a larger one. A call lies in a box, and so does all that is known of a frame
+//! with a longer way.
+//!
+//! How a frame is kept follows from the frame and its verdict alone, so whoever has both can do it before its turn comes.
+ghost use Rattle.std.specs.Prelude.{◌≡◌, IfOk, IfSome};
+ghost use Rattle.adapter.specs.declared.entry.Entry.TheVariants.{Asked, Passed};
+ghost use Rattle.adapter.specs.Kept.{entry_kept, entry_with, stack_key, ids_of, IsHead, IsPlain};
+
+mod shown;
+
+use crate::call::Call;
+use crate::caller::Caller;
+use crate::parcel::Parcel;
+use crate::reply::Reply;
+use arrayvec::ArrayVec;
+use flow_actions::{Fate, Verdict};
+use packet_headers::{Ipv4, Key, Network, Stack, Tags, Transport};
+pub(crate) use shown::show;
+use std::alloc::{AllocError, Global};
+
+/// A call and its reply.
+#[derive(Drop)]
+pub(crate) struct AskedCall {
+    pub(crate) caller: Caller,
+    pub(crate) call: Call,
+    pub(crate) reply: Reply,
+}
+
+/// The ids of the rules on a short way.
+#[derive(Clone, Copy)]
+pub(crate) enum Steps {
+    None,
+    One(u32),
+    Two(u32, u32),
+}
+
+/// What is kept of a frame beside its key: its number and length, who let it pass, and a verdict with a short way.
+#[derive(Clone, Copy)]
+pub(crate) struct Head {
+    pub(crate) number: u32,
+    pub(crate) len: u32,
+    pub(crate) mark: Option<u32>,
+    pub(crate) hash: Option<u32>,
+    pub(crate) steps: Steps,
+    pub(crate) fate: Fate,
+    pub(crate) caller: Caller,
+}
+
+/// A frame with Ethernet and IPv4, without tags and VXLAN. The Ethernet header stands field by field, and the head in
+/// the middle, so that no padding lies between.
+#[derive(Clone, Copy)]
+pub(crate) struct Plain {
+    pub(crate) eth_dst: u64,
+    pub(crate) eth_src: u64,
+    pub(crate) network: Ipv4,
+    pub(crate) head: Head,
+    pub(crate) transport: Transport,
+    pub(crate) ether_type: u16,
+    pub(crate) has_vlan: bool,
+    pub(crate) eth_offset: u8,
+}
+
+/// A frame with a longer way.
+#[derive(Drop)]
+pub(crate) struct Long {
+    pub(crate) caller: Caller,
+    pub(crate) parcel: Parcel,
+    pub(crate) verdict: Verdict,
+}
+
+/// An entry as it is kept.
+#[derive(Drop)]
+pub(crate) enum Kept {
+    Asked(Box<AskedCall>),
+    Plain(Plain),
+    /// A frame without VXLAN.
+    Stacked(Head, Box<Stack>),
+    Keyed(Head, Box<Key>),
+    Long(Box<Long>),
+}
+
+// An entry is kept for each frame of a history, and beside it the headers of a frame with tags or IPv6, or a call.
+const _: () = prove!(size_of::<Kept>() <= 88);
+
+const _: () = prove!(size_of::<Stack>() <= 104);
+
+const _: () = prove!(size_of::<AskedCall>() <= 72);
+
+/// A call and its reply, as they are kept.
+pub(crate) fn keep_call(
+    alloc: Global,
+    caller: Caller,
+    call: &Call,
+    reply: Reply,
+) -> Result<Kept, AllocError>
+    ensures { IfOk result (λ kept. entry_kept kept ≡ Asked caller call.now reply) }
+{
+    let call = call.clone()?;
+    let asked = Box::new(
+        alloc,
+        AskedCall {
+            caller,
+            call,
+            reply,
+        },
+    )?;
+    Ok(Kept::Asked(asked))
+}
+
+/// A frame and its verdict, as they are kept.
+pub(crate) fn keep_frame(
+    alloc: Global,
+    caller: Caller,
+    parcel: &Parcel,
+    verdict: &Verdict,
+) -> Result<Kept, AllocError>
+    ensures { IfOk result (λ kept. entry_kept kept ≡ Passed caller parcel.now verdict.now) }
+{
+    let Some(head) = head_of(caller, parcel, verdict) else {
+        return keep_long(alloc, caller, parcel, verdict);
+    };
+    if let Some(plain) = plain_of(&head, &parcel.key) {
+        return Ok(Kept::Plain(plain));
+    }
+    keep_boxed(alloc, &head, &parcel.key)
+}
+
+/// A frame that isn't of the usual kind.
+#[inline(never)]
+fn keep_boxed(alloc: Global, head: &Head, key: &Key) -> Result<Kept, AllocError>
+    ensures { IfOk result (λ kept. entry_kept kept ≡ entry_with head.now key.now) }
+{
+    if let Some(stack) = stack_of(key) {
+        let stack = Box::new(alloc, stack)?;
+        return Ok(Kept::Stacked(*head, stack));
+    }
+    let key = Box::new(alloc, *key)?;
+    Ok(Kept::Keyed(*head, key))
+}
+
+/// A frame with a longer way.
+#[inline(never)]
+fn keep_long(
+    alloc: Global,
+    caller: Caller,
+    parcel: &Parcel,
+    verdict: &Verdict,
+) -> Result<Kept, AllocError>
+    ensures { IfOk result (λ kept. entry_kept kept ≡ Passed caller parcel.now verdict.now) }
+{
+    let parcel = parcel.clone()?;
+    let verdict = verdict.clone()?;
+    let long = Box::new(
+        alloc,
+        Long {
+            caller,
+            parcel,
+            verdict,
+        },
+    )?;
+    Ok(Kept::Long(long))
+}
+
+/// A short way.
+fn steps_of(path: &ArrayVec<u32, 16>) -> Option<Steps>
+    ensures { IfSome result (λ steps. ids_of steps ≡ path.now.items) }
+{
+    let ids = path.as_slice();
+    if ids.len() == 0 {
+        return Some(Steps::None);
+    }
+    if ids.len() == 1 {
+        return Some(Steps::One(ids[0]));
+    }
+    if ids.len() == 2 {
+        return Some(Steps::Two(ids[0], ids[1]));
+    }
+    None
+}
+
+/// What is kept of a frame beside its key, where its way is short.
+fn head_of(caller: Caller, parcel: &Parcel, verdict: &Verdict) -> Option<Head>
+    ensures { IfSome result (λ head. IsHead caller parcel.now verdict.now head) }
+{
+    let steps = steps_of(&verdict.path)?;
+    Some(Head {
+        number: parcel.number,
+        len: parcel.len,
+        mark: verdict.mark,
+        hash: verdict.hash,
+        steps,
+        fate: verdict.fate,
+        caller,
+    })
+}
+
+/// The headers of a frame without VXLAN.
+fn stack_of(key: &Key) -> Option<Stack>
+    ensures { IfSome result (λ stack. stack_key stack ≡ key.now) }
+{
+    if key.tunnel.is_some() {
+        return None;
+    }
+    key.outer
+}
+
+/// A frame with Ethernet and IPv4 alone.
+fn plain_of(head: &Head, key: &Key) -> Option<Plain>
+    ensures { IfSome result (λ plain. IsPlain head.now key.now plain) }
+{
+    if key.tunnel.is_some() {
+        return None;
+    }
+    let Some(stack) = &key.outer else {
+        return None;
+    };
+    let Tags::None = &stack.tags else {
+        return None;
+    };
+    let Network::V4(network) = &stack.network else {
+        return None;
+    };
+    Some(Plain {
+        eth_dst: stack.eth.dst,
+        eth_src: stack.eth.src,
+        network: *network,
+        head: *head,
+        transport: stack.transport,
+        ether_type: stack.eth.ether_type,
+        has_vlan: stack.eth.has_vlan,
+        eth_offset: stack.eth.offset,
+    })
+}

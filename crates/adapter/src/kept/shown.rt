@@ -1,0 +1,146 @@
+//! How a kept entry is shown: a call is lent, and a frame is made anew from what is kept.
+ghost use Rattle.std.specs.Prelude.{◌≡◌};
+ghost use Rattle.adapter.specs.Seen.{entry_of};
+ghost use Rattle.adapter.specs.Kept.{entry_kept, entry_with, plain_key, stack_key, verdict_in, ids_of};
+
+use super::{Head, Kept, Long, Plain, Steps};
+use crate::entry::EntryView;
+use crate::parcel::Parcel;
+use arrayvec::ArrayVec;
+use flow_actions::Verdict;
+use packet_headers::{Eth, Key, Network, Stack, Tags};
+
+/// The entry, from what is kept of it.
+pub(crate) fn show(kept: &Kept) -> EntryView<'_>
+    ensures { entry_of result ≡ entry_kept kept.now }
+{
+    match kept {
+        Kept::Asked(asked) => EntryView::Asked {
+            caller: asked.caller,
+            call: &asked.call,
+            reply: &asked.reply,
+        },
+        Kept::Plain(plain) => show_frame(&plain.head, plain.key()),
+        Kept::Stacked(head, stack) => show_frame(head, key_with(stack)),
+        Kept::Keyed(head, key) => show_frame(head, **key),
+        Kept::Long(long) => EntryView::Passed {
+            caller: long.caller,
+            parcel: long.parcel(),
+            verdict: long.verdict(),
+        },
+    }
+}
+
+/// The entry of a frame of this key.
+fn show_frame<'a>(head: &Head, key: Key) -> EntryView<'a>
+    ensures { entry_of result ≡ entry_with head.now key }
+{
+    EntryView::Passed {
+        caller: head.caller,
+        parcel: head.parcel(key),
+        verdict: head.verdict(),
+    }
+}
+
+/// The key of a frame without VXLAN.
+fn key_with(stack: &Stack) -> Key
+    ensures { result ≡ stack_key stack.now }
+{
+    Key {
+        outer: Some(*stack),
+        tunnel: None,
+    }
+}
+
+/// The ids of a short way as a list.
+fn path_of(steps: Steps) -> ArrayVec<u32, 16>
+    ensures { result.items ≡ ids_of steps }
+{
+    let mut path = ArrayVec::new();
+    match steps {
+        Steps::None => {}
+        Steps::One(first) => path.push(first),
+        Steps::Two(first, second) => {
+            path.push(first);
+            path.push(second);
+        }
+    }
+    path
+}
+
+/// The same ids.
+fn copy_of(path: &ArrayVec<u32, 16>) -> ArrayVec<u32, 16>
+    ensures { result.items ≡ path.now.items }
+{
+    let mut copy = ArrayVec::new();
+    for id in path.as_slice() {
+        copy.push(*id);
+    }
+    copy
+}
+
+impl Head {
+    /// The frame, which has this key.
+    fn parcel(&self, key: Key) -> Parcel
+        ensures { result ≡ record { number = self.now.number; key = key; len = self.now.len } }
+    {
+        Parcel {
+            number: self.number,
+            key,
+            len: self.len,
+        }
+    }
+
+    fn verdict(&self) -> Verdict
+        ensures { result ≡ verdict_in self.now }
+    {
+        Verdict {
+            fate: self.fate,
+            mark: self.mark,
+            hash: self.hash,
+            path: path_of(self.steps),
+        }
+    }
+}
+
+impl Plain {
+    fn key(&self) -> Key
+        ensures { result ≡ plain_key self.now }
+    {
+        key_with(&Stack {
+            eth: Eth {
+                dst: self.eth_dst,
+                src: self.eth_src,
+                ether_type: self.ether_type,
+                has_vlan: self.has_vlan,
+                offset: self.eth_offset,
+            },
+            network: Network::V4(self.network),
+            tags: Tags::None,
+            transport: self.transport,
+        })
+    }
+}
+
+impl Long {
+    fn parcel(&self) -> Parcel
+        ensures { result ≡ self.now.parcel }
+    {
+        Parcel {
+            number: self.parcel.number,
+            key: self.parcel.key,
+            len: self.parcel.len,
+        }
+    }
+
+    fn verdict(&self) -> Verdict
+        ensures { result ≡ self.now.verdict }
+    {
+        Verdict {
+            fate: self.verdict.fate,
+            mark: self.verdict.mark,
+            hash: self.verdict.hash,
+            path: copy_of(&self.verdict.path),
+        }
+    }
+}
