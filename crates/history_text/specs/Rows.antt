@@ -1,11 +1,12 @@
 -- The rows of a list of rules.
-use Rattle.std.specs.Prelude.{ℕ, List, ◌++◌, codes, decimal}
+use Rattle.std.specs.Prelude.{ℕ, List, [], ◌∷◌, ◌++◌, codes}
 use Rattle.std.specs.List.{flat_map}
 use Rattle.packet_headers.specs.declared.items.ItemKind.{ItemKind}
 use Rattle.packet_headers.specs.declared.items.ItemKind.TheVariants as items
 use Rattle.flow_actions.specs.declared.action.ActionKind.{ActionKind}
 use Rattle.flow_actions.specs.declared.action.ActionKind.TheVariants as actions
 use Rattle.adapter.specs.declared.rows.ListRow.{ListRow}
+use Rattle.history_text.specs.Forms.{filled}
 
 -- an item's name and a space
 abbrev pub item_text : ItemKind → List ℕ
@@ -25,10 +26,7 @@ action_text actions.Queue = codes " QUEUE"
 action_text actions.Drop = codes " DROP"
 action_text actions.Jump = codes " JUMP"
 
+-- a line behind the columns' names: id, group and priority, and the names of items and actions
 abbrev pub row_text : ListRow → List ℕ
-row_text row = codes "\n" ++ (decimal row.id ++ (codes "\t" ++ (decimal row.group ++ (codes "\t" ++ (decimal row.priority
-    ++ (codes "\ti--\t" ++ (flat_map item_text row.items.items ++ (codes "=>" ++ flat_map action_text row.actions.items))))))))
-
--- a line of the columns' names, and a line for each rule
-abbrev pub list_text : List ListRow → List ℕ
-list_text rows = codes "ID\tGroup\tPrio\tAttr\tRule" ++ flat_map row_text rows
+row_text row = filled (codes "\n0\t0\t0\ti--\t") (row.id ∷ row.group ∷ row.priority ∷ [])
+    ++ (flat_map item_text row.items.items ++ (codes "=>" ++ flat_map action_text row.actions.items))

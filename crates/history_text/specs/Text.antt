@@ -1,22 +1,23 @@
 -- The transcript of a history: a line for each entry, and a line of totals.
-use Rattle.std.specs.Prelude.{ℕ, List, ◌++◌, codes, decimal}
+use Rattle.std.specs.Prelude.{ℕ, List, [], ◌∷◌, ◌++◌, codes}
 use Rattle.std.specs.List.{flat_map}
 use Rattle.flow_rules.specs.declared.limits.Limits.{Limits}
 use Rattle.adapter.specs.declared.entry.Entry.{Entry}
 use Rattle.adapter.specs.declared.entry.Entry.TheVariants.{Asked, Passed}
 use Rattle.adapter.specs.Totals.{totals_of}
 use Rattle.history_text.specs.declared.ending.Ending.{Ending}
+use Rattle.history_text.specs.Forms.{filled}
 use Rattle.history_text.specs.Endings.{ending_text}
 use Rattle.history_text.specs.Callers.{caller_text}
 use Rattle.history_text.specs.Totals.{totals_text}
 use Rattle.history_text.specs.Replies.{reply_text}
 use Rattle.history_text.specs.Verdicts.{verdict_text}
 
-abbrev pub entry_text : Limits → Entry → List ℕ
-entry_text limits (Asked caller call reply) = caller_text caller ++ (codes " " ++ (decimal call.at.line
-    ++ (codes "." ++ (decimal call.at.part ++ (codes ": " ++ (reply_text limits reply ++ codes "\n"))))))
-entry_text limits (Passed caller parcel verdict) = caller_text caller ++ (codes " #" ++ (decimal parcel.number
-    ++ (codes ": " ++ (verdict_text verdict ++ codes "\n"))))
+unfoldable pub entry_text : Limits → Entry → List ℕ
+entry_text limits (Asked caller call reply) = caller_text caller ++ (filled (codes " 0.0: ") (call.at.line ∷ call.at.part ∷ [])
+    ++ (reply_text limits reply ++ codes "\n"))
+entry_text limits (Passed caller parcel verdict) = caller_text caller ++ (filled (codes " #0: ") (parcel.number ∷ [])
+    ++ (verdict_text verdict ++ codes "\n"))
 
 -- what stands behind the last entry
 abbrev pub end_text : Limits → List Entry → Ending → List ℕ

@@ -1,11 +1,19 @@
 //! Refusals. The names and numbers of error types, and the texts of causes, stand here and nowhere else.
-ghost use Rattle.std.specs.Prelude.{◌≡◌};
-ghost use Rattle.io_edges.specs.Gather.{gather_of};
-ghost use Rattle.io_edges.specs.Prints.{Prints};
-ghost use Rattle.history_text.specs.Causes.{type_row, told_of, place_text, fault_text};
+ghost use Rattle.std.specs.Prelude.{◌≡◌, ◌≤◌, ◌<◌, ◌+◌, ◌++◌, map};
+ghost use Rattle.std.specs.List.{concat};
+ghost use Rattle.arrayvec.specs.ArrayVec.{array_vec_len};
+ghost use Rattle.flow_rules.specs.ErrorTypes.{error_type};
+ghost use Rattle.history_text.specs.Causes.{type_row, told_of, place_form, place_numbers, number_in, refusal_form, refusal_numbers};
 
+use crate::kind::Form;
+use arrayvec::ArrayVec;
 use flow_rules::{Cause, ErrorType, Fault};
-use io_edges::{Page, Sink, print, print_number};
+
+/// As many numbers as a text may have.
+const MAX_NUMBERS: usize = 4;
+
+/// The numbers of a text.
+pub(crate) type Numbers = ArrayVec<u64, MAX_NUMBERS>;
 
 /// Whether the refusal of a cause names a place.
 #[derive(Clone, Copy)]
@@ -28,7 +36,9 @@ pub(crate) struct TypeRow {
 #[derive(Clone, Copy)]
 pub(crate) struct CauseRow {
     place: Place,
+    /// The text, with the number in it written `0`.
     text: &'static [u8],
+    number: Option<u64>,
 }
 
 /// A row of the table of error types.
@@ -41,7 +51,10 @@ macro_rules! named {
 /// A row of the table of causes.
 macro_rules! told {
     ($place:ident, $text:literal) => {
-        CauseRow { place: Place::$place, text: $text }
+        CauseRow { place: Place::$place, text: $text, number: None }
+    };
+    ($place:ident, $text:literal, $number:literal) => {
+        CauseRow { place: Place::$place, text: $text, number: Some($number) }
     };
 }
 
@@ -70,7 +83,7 @@ fn type_row(error: ErrorType) -> TypeRow
 }
 
 fn told_of(cause: Cause) -> CauseRow
-    ensures { record { place = result.place; text = result.text.now } ≡ told_of cause }
+    ensures { record { place = result.place; text = result.text.now; number = result.number } ≡ told_of cause }
 {
     match cause {
         Cause::GroupRange => told!(Nowhere, b"group out of range"),
@@ -79,14 +92,14 @@ fn told_of(cause: Cause) -> CauseRow
         Cause::Egress => told!(Nowhere, b"egress is not supported"),
         Cause::Transfer => told!(Nowhere, b"transfer is not supported"),
         Cause::RulesNumber => told!(Nowhere, b"rules number out of range"),
-        Cause::TooManyItems => told!(Nowhere, b"more than 16 items"),
+        Cause::TooManyItems => told!(Nowhere, b"more than 0 items", 16),
         Cause::SpecMissing => told!(Item, b"last or mask without spec"),
         Cause::SpecNeeded => told!(Item, b"spec is required"),
         Cause::LastBelow => told!(Item, b"last below spec"),
         Cause::LastInTemplate => told!(Item, b"last is not supported here"),
         Cause::ItemOrder => told!(Item, b"does not follow the item before it"),
         Cause::ItemDiffers => told!(Item, b"differs from the template"),
-        Cause::TooManyActions => told!(Nowhere, b"more than 16 actions"),
+        Cause::TooManyActions => told!(Nowhere, b"more than 0 actions", 16),
         Cause::ActionConf => told!(Action, b"bad value"),
         Cause::NoIndirect => told!(Action, b"no such indirect action"),
         Cause::ItemNeeded => told!(Action, b"needs an item in the pattern"),
@@ -112,36 +125,58 @@ fn told_of(cause: Cause) -> CauseRow
     }
 }
 
-fn print_place<K: Sink>(sink: &mut K, page: &mut Page, place: Place, at: u16)
-    ensures { Prints (gather_of K.taken K.faults sink.old page.old)
-        (gather_of K.taken K.faults sink.new page.new) (place_text place at) }
+fn place_form(place: Place) -> &'static [u8]
+    ensures { result.now ≡ place_form place }
 {
     match place {
-        Place::Nowhere => {}
-        Place::Item => {
-            print(sink, page, b"item ");
-            print_number(sink, page, at);
-            print(sink, page, b": ");
-        }
-        Place::Action => {
-            print(sink, page, b"action ");
-            print_number(sink, page, at);
-            print(sink, page, b": ");
-        }
+        Place::Nowhere => b"",
+        Place::Item => b"item 0: ",
+        Place::Action => b"action 0: ",
     }
 }
 
-pub(crate) fn print_fault<K: Sink>(sink: &mut K, page: &mut Page, fault: &Fault)
-    ensures { Prints (gather_of K.taken K.faults sink.old page.old)
-        (gather_of K.taken K.faults sink.new page.new) (fault_text fault.now) }
+/// The text of a refusal.
+pub(crate) fn refusal_form(cause: Cause) -> Form
+    ensures { concat (map (λ part. part.now) result) ≡ refusal_form cause }
 {
+    let fault = Fault { cause, at: 0 };
     let row = type_row(fault.kind());
+    let told = told_of(cause);
+    let place = place_form(told.place);
+    [b"Caught error type 0 (", row.name, b"): ", place, told.text]
+}
+
+/// Adds the place that a refusal names.
+fn push_place(numbers: &mut Numbers, place: Place, at: u16)
+    requires { array_vec_len numbers.old < 4 }
+    ensures items { numbers.new.items ≡ numbers.old.items ++ place_numbers place at }
+    ensures len { array_vec_len numbers.new ≤ array_vec_len numbers.old + 1 }
+{
+    match place {
+        Place::Nowhere => {}
+        Place::Item => numbers.push(at as u64),
+        Place::Action => numbers.push(at as u64),
+    }
+}
+
+/// Adds a number, where there is one.
+fn push_number(numbers: &mut Numbers, number: Option<u64>)
+    requires { array_vec_len numbers.old < 4 }
+    ensures items { numbers.new.items ≡ numbers.old.items ++ number_in number }
+{
+    if let Some(number) = number {
+        numbers.push(number);
+    }
+}
+
+/// The numbers in the text of a refusal.
+pub(crate) fn refusal_numbers(fault: &Fault) -> Numbers
+    ensures { result.items ≡ refusal_numbers fault.now }
+{
     let told = told_of(fault.cause);
-    print(sink, page, b"Caught error type ");
-    print_number(sink, page, row.number);
-    print(sink, page, b" (");
-    print(sink, page, row.name);
-    print(sink, page, b"): ");
-    print_place(sink, page, told.place, fault.at);
-    print(sink, page, told.text);
+    let mut numbers = ArrayVec::new();
+    numbers.push(type_row(fault.kind()).number as u64);
+    push_place(&mut numbers, told.place, fault.at);
+    push_number(&mut numbers, told.number);
+    numbers
 }

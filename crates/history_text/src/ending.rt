@@ -4,8 +4,9 @@ ghost use Rattle.io_edges.specs.Gather.{gather_of};
 ghost use Rattle.io_edges.specs.Prints.{Prints};
 ghost use Rattle.history_text.specs.Endings.{kind_text, ending_text};
 
+use crate::form::print_form;
 use capture_files::CaptureKind;
-use io_edges::{Page, Sink, print, print_number};
+use io_edges::{Page, Sink, print};
 
 /// Whether the capture was read as far as it was asked for, or why not. A place counts the bytes of the file in front of it.
 #[derive(Clone, Copy, Debug, PartialEq, Eq)]
@@ -41,16 +42,11 @@ pub(crate) fn print_ending<K: Sink>(sink: &mut K, page: &mut Page, ending: Endin
     match ending {
         Ending::Whole => {}
         Ending::Bad { place, kind } => {
-            print(sink, page, b"capture: bad at byte ");
-            print_number(sink, page, place);
-            print(sink, page, b": ");
-            print(sink, page, kind_words(kind));
-            print(sink, page, b"\n");
+            let parts: [&[u8]; 3] = [b"capture: bad at byte 0: ", kind_words(kind), b"\n"];
+            print_form(sink, page, &parts, &[place]);
         }
         Ending::Large { place } => {
-            print(sink, page, b"capture: too large at byte ");
-            print_number(sink, page, place);
-            print(sink, page, b"\n");
+            print_form(sink, page, &[b"capture: too large at byte 0\n"], &[place]);
         }
         Ending::ReadFault => print(sink, page, b"capture: read fault\n"),
     }

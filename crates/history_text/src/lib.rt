@@ -16,9 +16,13 @@
 //! What holds between calls: after a failed write nothing more is written, so what the sink took is never more than one
 //! front.
 //!
+//! A text that isn't on the way of each frame is a form: it stands with each number in it written `0`, as
+//! `Flow rule #0 created`, and is printed with its numbers (`specs/Forms.antt`).
+//!
 //! One file prints one part of a line, and the definition of that part has its name:
 //! - `caller`: the shell, an agent or a worker (`specs/Callers.antt`),
-//! - `cause`: the table of error types, their causes and texts, and a refusal (`specs/Causes.antt`),
+//! - `kind`: the table of the texts of replies, a line for each, and which numbers a reply has (`specs/Kinds.antt`),
+//! - `cause`: the table of error types, their causes and texts, and the form of a refusal (`specs/Causes.antt`),
 //! - `row`: a list of rules, a line each (`specs/Rows.antt`),
 //! - `totals`, `reply`, `verdict` (`specs/Totals.antt`, `specs/Replies.antt`, `specs/Verdicts.antt`),
 //! - `ending`: the line of a capture that stopped early (`specs/Endings.antt`),
@@ -30,6 +34,8 @@
 mod caller;
 mod cause;
 mod ending;
+mod form;
+mod kind;
 mod reply;
 mod row;
 mod totals;

@@ -3,11 +3,12 @@ ghost use Rattle.std.specs.Prelude.{◌≡◌};
 ghost use Rattle.std.specs.List.{flat_map};
 ghost use Rattle.io_edges.specs.Gather.{gather_of};
 ghost use Rattle.io_edges.specs.Prints.{Prints};
-ghost use Rattle.history_text.specs.Rows.{item_text, action_text, row_text, list_text};
+ghost use Rattle.history_text.specs.Rows.{item_text, action_text, row_text};
 
+use crate::form::print_form;
 use adapter::{ListRow, RuleList};
 use flow_actions::ActionKind;
-use io_edges::{Page, Sink, print, print_number};
+use io_edges::{Page, Sink, print};
 use packet_headers::ItemKind;
 
 /// An item's name and a space.
@@ -61,32 +62,19 @@ fn print_row<K: Sink>(sink: &mut K, page: &mut Page, row: &ListRow)
     ensures { Prints (gather_of K.taken K.faults sink.old page.old)
         (gather_of K.taken K.faults sink.new page.new) (row_text row.now) }
 {
-    print(sink, page, b"\n");
-    print_number(sink, page, row.id);
-    print(sink, page, b"\t");
-    print_number(sink, page, row.group);
-    print(sink, page, b"\t");
-    print_number(sink, page, row.priority);
-    print(sink, page, b"\ti--\t");
+    let numbers = [row.id as u64, row.group as u64, row.priority as u64];
+    print_form(sink, page, &[b"\n0\t0\t0\ti--\t"], &numbers);
     print_items(sink, page, row.items.as_slice());
     print(sink, page, b"=>");
     print_actions(sink, page, row.actions.as_slice());
 }
 
-fn print_rows<K: Sink>(sink: &mut K, page: &mut Page, rows: &RuleList)
+/// Prints a line for each rule, each behind the end of the line before it.
+pub(crate) fn print_rows<K: Sink>(sink: &mut K, page: &mut Page, rows: &RuleList)
     ensures { Prints (gather_of K.taken K.faults sink.old page.old)
         (gather_of K.taken K.faults sink.new page.new) (flat_map row_text rows.now) }
 {
     for place in 0..rows.len() {
         print_row(sink, page, rows.get(place));
     }
-}
-
-/// The list of rules, without the end of its last line.
-pub(crate) fn print_list<K: Sink>(sink: &mut K, page: &mut Page, rows: &RuleList)
-    ensures { Prints (gather_of K.taken K.faults sink.old page.old)
-        (gather_of K.taken K.faults sink.new page.new) (list_text rows.now) }
-{
-    print(sink, page, b"ID\tGroup\tPrio\tAttr\tRule");
-    print_rows(sink, page, rows);
 }

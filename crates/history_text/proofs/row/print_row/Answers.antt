@@ -6,7 +6,5 @@ use Rattle.history_text.proofs.row.print_row.Goals as goal
 
 pub returns : goal.returns
 returns g c =
-    Prints-then c.print.ensures.prints (Prints-then c.print_number.ensures.prints (Prints-then c.print-2.ensures.prints
-    (Prints-then c.print_number-2.ensures.prints (Prints-then c.print-3.ensures.prints (Prints-then c.print_number-3.ensures.prints
-    (Prints-then c.print-4.ensures.prints (Prints-then (Prints-as (ap (flat_map item_text) c.as_slice.ensures.value) c.print_items.ensures)
-    (Prints-then c.print-5.ensures.prints (Prints-as (ap (flat_map action_text) c.as_slice-2.ensures.value) c.print_actions.ensures)))))))))
+    Prints-then c.print_form.ensures (Prints-then (Prints-as (ap (flat_map item_text) c.as_slice.ensures.value) c.print_items.ensures)
+    (Prints-then c.print.ensures.prints (Prints-as (ap (flat_map action_text) c.as_slice-2.ensures.value) c.print_actions.ensures)))

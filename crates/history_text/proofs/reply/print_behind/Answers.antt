@@ -1,0 +1,9 @@
+use Rattle.std.proofs.Common.{ap}
+use Rattle.adapter.specs.declared.reply.Reply.TheVariants.{Stopped}
+use Rattle.io_edges.proofs.Joins.{Prints-as}
+use Rattle.history_text.specs.Replies.{behind_text}
+use Rattle.history_text.proofs.reply.print_behind.Goals as goal
+
+pub returns-in-Stopped : goal.returns-in-Stopped
+returns-in-Stopped g c =
+    rw c.in-Stopped.is (Prints-as (ap (λ totals. behind_text c.args.limits (Stopped totals)) c.get.ensures) c.print_totals.ensures)

@@ -1,0 +1,49 @@
+-- The table of the texts of replies, each with its numbers written `0`.
+use Rattle.std.specs.Prelude.{ℕ, true, false, List, [], ◌∷◌, codes}
+use Rattle.adapter.specs.declared.call.BadKind.TheVariants as bads
+use Rattle.adapter.specs.declared.reply.Reply.{Reply}
+use Rattle.adapter.specs.declared.reply.Reply.TheVariants as replies
+use Rattle.history_text.specs.declared.kind.Kind.{Kind}
+use Rattle.history_text.specs.declared.kind.Kind.TheVariants as kinds
+use Rattle.history_text.specs.Causes.{refusal_form, refusal_numbers}
+
+abbrev pub kind_form : Kind → List ℕ
+kind_form kinds.Validated = codes "Flow rule validated"
+kind_form kinds.Created = codes "Flow rule #0 created"
+kind_form kinds.Destroyed = codes "Flow rule #0 destroyed"
+kind_form kinds.Flushed = codes "Flow rules flushed"
+kind_form kinds.Listed = codes "ID\tGroup\tPrio\tAttr\tRule"
+kind_form (kinds.Isolated true) = codes "Ingress traffic is restricted to the defined flow rules"
+kind_form (kinds.Isolated false) = codes "Ingress traffic is not restricted"
+kind_form kinds.Started = codes "Packet forwarding started"
+kind_form kinds.Stopped = codes "Packet forwarding stopped: "
+kind_form kinds.Bye = codes "Bye"
+kind_form (kinds.Bad bads.Arguments) = codes "Bad arguments"
+kind_form (kinds.Bad bads.Port) = codes "Invalid port"
+kind_form (kinds.Bad bads.NotStarted) = codes "Packet forwarding not started"
+kind_form (kinds.Bad bads.AlreadyStarted) = codes "Packet forwarding already started"
+kind_form (kinds.Refused cause) = refusal_form cause
+
+-- the text of a reply, and the numbers in it
+pub record Spelled : Type 0 where
+  pub kind : Kind
+  pub numbers : List ℕ
+
+abbrev pub plain : Kind → Spelled
+plain kind = record { kind = kind; numbers = [] }
+
+abbrev pub numbered : Kind → ℕ → Spelled
+numbered kind number = record { kind = kind; numbers = number ∷ [] }
+
+abbrev pub spell : Reply → Spelled
+spell replies.Validated = plain kinds.Validated
+spell (replies.Created id) = numbered kinds.Created id
+spell (replies.Destroyed id) = numbered kinds.Destroyed id
+spell replies.Flushed = plain kinds.Flushed
+spell (replies.Listed rows) = plain kinds.Listed
+spell (replies.Isolated on) = plain (kinds.Isolated on)
+spell replies.Started = plain kinds.Started
+spell (replies.Stopped totals) = plain kinds.Stopped
+spell replies.Bye = plain kinds.Bye
+spell (replies.Bad kind) = plain (kinds.Bad kind)
+spell (replies.Fault fault) = record { kind = kinds.Refused fault.cause; numbers = refusal_numbers fault }

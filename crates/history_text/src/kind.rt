@@ -1,0 +1,109 @@
+//! The texts of replies, and which of them a reply has. The texts stand here and nowhere else.
+ghost use Rattle.std.specs.Prelude.{◌≡◌, map};
+ghost use Rattle.std.specs.List.{concat};
+ghost use Rattle.history_text.specs.Kinds.{kind_form, plain, numbered, spell};
+
+use crate::cause::{Numbers, refusal_form, refusal_numbers};
+use adapter::{BadKind, Reply};
+use arrayvec::ArrayVec;
+use flow_rules::Cause;
+
+/// A reply without its numbers and lists.
+#[derive(Clone, Copy)]
+pub(crate) enum Kind {
+    Validated,
+    Created,
+    Destroyed,
+    Flushed,
+    Listed,
+    Isolated(bool),
+    Started,
+    Stopped,
+    Bye,
+    Bad(BadKind),
+    Refused(Cause),
+}
+
+/// The text of a reply, and the numbers in it.
+#[derive(Drop)]
+pub(crate) struct Spelled {
+    pub(crate) kind: Kind,
+    pub(crate) numbers: Numbers,
+}
+
+/// As many parts as a text may have.
+const MAX_PARTS: usize = 5;
+
+/// A text in parts, with each number in it written `0`.
+pub(crate) type Form = [&'static [u8]; MAX_PARTS];
+
+/// A text in one part.
+fn whole(text: &'static [u8]) -> Form
+    ensures { concat (map (λ part. part.now) result) ≡ text.entry.now }
+{
+    [text, b"", b"", b"", b""]
+}
+
+pub(crate) fn kind_form(kind: Kind) -> Form
+    ensures { concat (map (λ part. part.now) result) ≡ kind_form kind }
+{
+    match kind {
+        Kind::Validated => whole(b"Flow rule validated"),
+        Kind::Created => whole(b"Flow rule #0 created"),
+        Kind::Destroyed => whole(b"Flow rule #0 destroyed"),
+        Kind::Flushed => whole(b"Flow rules flushed"),
+        Kind::Listed => whole(b"ID\tGroup\tPrio\tAttr\tRule"),
+        Kind::Isolated(true) => {
+            whole(b"Ingress traffic is restricted to the defined flow rules")
+        }
+        Kind::Isolated(false) => whole(b"Ingress traffic is not restricted"),
+        Kind::Started => whole(b"Packet forwarding started"),
+        Kind::Stopped => whole(b"Packet forwarding stopped: "),
+        Kind::Bye => whole(b"Bye"),
+        Kind::Bad(BadKind::Arguments) => whole(b"Bad arguments"),
+        Kind::Bad(BadKind::Port) => whole(b"Invalid port"),
+        Kind::Bad(BadKind::NotStarted) => whole(b"Packet forwarding not started"),
+        Kind::Bad(BadKind::AlreadyStarted) => whole(b"Packet forwarding already started"),
+        Kind::Refused(cause) => refusal_form(cause),
+    }
+}
+
+/// A text without numbers.
+fn plain(kind: Kind) -> Spelled
+    ensures { record { kind = result.kind; numbers = result.numbers.items } ≡ plain kind }
+{
+    Spelled {
+        kind,
+        numbers: ArrayVec::new(),
+    }
+}
+
+/// A text with a number.
+fn numbered(kind: Kind, number: u64) -> Spelled
+    ensures { record { kind = result.kind; numbers = result.numbers.items } ≡ numbered kind number }
+{
+    let mut numbers = ArrayVec::new();
+    numbers.push(number);
+    Spelled { kind, numbers }
+}
+
+pub(crate) fn spell(reply: &Reply) -> Spelled
+    ensures { record { kind = result.kind; numbers = result.numbers.items } ≡ spell reply.now }
+{
+    match reply {
+        Reply::Validated => plain(Kind::Validated),
+        Reply::Created(id) => numbered(Kind::Created, *id as u64),
+        Reply::Destroyed(id) => numbered(Kind::Destroyed, *id as u64),
+        Reply::Flushed => plain(Kind::Flushed),
+        Reply::Listed(_) => plain(Kind::Listed),
+        Reply::Isolated(on) => plain(Kind::Isolated(*on)),
+        Reply::Started => plain(Kind::Started),
+        Reply::Stopped(_) => plain(Kind::Stopped),
+        Reply::Bye => plain(Kind::Bye),
+        Reply::Bad(kind) => plain(Kind::Bad(*kind)),
+        Reply::Fault(fault) => Spelled {
+            kind: Kind::Refused(fault.cause),
+            numbers: refusal_numbers(fault),
+        },
+    }
+}
