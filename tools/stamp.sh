@@ -14,15 +14,15 @@ sum_of() {
     sha256sum <"$1" | cut -d ' ' -f 1
 }
 
-# The program's crate and those that it stands on, by crates.txt, one a line.
+# The crates that the program stands on and then its own, by crates.txt: one a line, each behind those that it needs.
 crates_needed() {
     awk '
         function visit(name,    deps, count, i) {
             if (!(name in below) || (name in seen)) return
             seen[name] = 1
-            print name
             count = split(below[name], deps, " ")
             for (i = 1; i <= count; i++) visit(deps[i])
+            print name
         }
         { sub(/#.*/, ""); colon = index($0, ":") }
         colon { split(substr($0, 1, colon - 1), head, " "); below[head[1]] = substr($0, colon + 1) }
