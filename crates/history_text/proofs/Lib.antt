@@ -1,1 +1,3 @@
 mod Weaving
+pub mod ReadBack
+pub mod KindLaws

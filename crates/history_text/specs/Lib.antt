@@ -1,8 +1,10 @@
 pub mod Forms
+pub mod Reading
 pub mod Callers
 pub mod Totals
 pub mod Causes
 pub mod Kinds
+pub mod KindRows
 pub mod Rows
 pub mod Replies
 pub mod Verdicts

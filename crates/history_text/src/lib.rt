@@ -36,6 +36,7 @@ mod cause;
 mod ending;
 mod form;
 mod kind;
+mod read_back;
 mod reply;
 mod row;
 mod totals;
@@ -43,4 +44,5 @@ mod transcript;
 mod verdict;
 
 pub use ending::Ending;
+pub use read_back::kinds_are_read_back;
 pub use transcript::print_history;
