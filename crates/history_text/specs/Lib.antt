@@ -9,4 +9,5 @@ pub mod Rows
 pub mod Replies
 pub mod Verdicts
 pub mod Endings
+pub mod Told
 pub mod Text

@@ -1,0 +1,173 @@
+-- Replies with one text are one reply.
+use Rattle.std.proofs.Common.{◌≡◌, ◌≢◌, ℕ, ◌^◌, ◌<◌, true, false, List, [], ◌∷◌, ◌++◌, take, drop, map, get_or, codes, decimal, Option, Some, None, refl, sym, ap, ◌∙◌, subst, arith, rules, append_assoc, take-append-drop, lit≤, lit<}
+use Rattle.std.proofs.lemmas.Option.{same_Some}
+use Rattle.std.proofs.NetLemmas.Options.{same_parts}
+use Rattle.std.proofs.NetLemmas.Numbers.{NoDigit}
+use Rattle.flow_rules.specs.declared.limits.Limits.{Limits}
+use Rattle.flow_rules.specs.declared.fault.Cause.{Cause}
+use Rattle.flow_rules.specs.declared.fault.Cause.TheVariants as causes
+use Rattle.adapter.specs.declared.call.BadKind.TheVariants as bads
+use Rattle.adapter.specs.declared.reply.Totals.{Totals}
+use Rattle.adapter.specs.declared.reply.Reply.{Reply}
+use Rattle.adapter.specs.declared.reply.Reply.TheVariants as replies
+use Rattle.history_text.specs.declared.cause.Place.{Place}
+use Rattle.history_text.specs.declared.cause.Place.TheVariants as places
+use Rattle.history_text.specs.declared.kind.Kind.{Kind}
+use Rattle.history_text.specs.declared.kind.Kind.TheVariants as kinds
+use Rattle.history_text.specs.Forms.{form, filled}
+use Rattle.history_text.specs.Causes.{told_of, place_numbers, number_in, refusal_form, refusal_numbers}
+use Rattle.history_text.specs.Kinds.{kind_form, spell}
+use Rattle.history_text.specs.KindRows.{kind_rows}
+use Rattle.history_text.specs.Reading.{Fills, Ends, front_by}
+use Rattle.history_text.specs.Replies.{behind_text, reply_text}
+use Rattle.history_text.specs.Totals.{totals_text}
+use Rattle.history_text.specs.Told.{PlaceIsTold, TotalsAreTold, ReplyIsTold}
+use Rattle.history_text.proofs.KindLaws.{kind-back}
+use Rattle.history_text.proofs.Parts.{filled-same, listed, listed-same}
+
+-- each text of a reply ends in no number
+ends : (kind : Kind) (rest : List ℕ) → Ends (form (kind_form kind)) rest
+ends (kinds.Refused causes.GroupRange) rest = tt
+ends (kinds.Refused cause) rest = tt
+ends (kinds.Isolated true) rest = tt
+ends (kinds.Isolated false) rest = tt
+ends (kinds.Bad bads.Port) rest = tt
+ends (kinds.Bad kind) rest = tt
+ends kind rest = tt
+
+fault-fills : (cause : Cause) (at : ℕ) → at < 2 ^ 64 → Fills (form (refusal_form cause)) (refusal_numbers (record { cause = cause; at = at }))
+fault-fills causes.TooManyItems at small = (lit< tt, (lit< tt, tt))
+fault-fills causes.TooManyActions at small = (lit< tt, (lit< tt, tt))
+fault-fills causes.GroupRange at small = (lit< tt, tt)
+fault-fills cause at small = (lit< tt, search rules)
+
+place-small : (place : Place) (at : ℕ) → PlaceIsTold place at → at < 2 ^ 64
+place-small places.Nowhere at none = omega (arith, none)
+place-small places.Item at small = small
+place-small places.Action at small = small
+
+fills : (limits : Limits) (r : Reply) → ReplyIsTold limits r → Fills (form (kind_form (spell r).kind)) (spell r).numbers
+fills limits (replies.Created id) told = (told, tt)
+fills limits (replies.Destroyed id) told = (told, tt)
+fills limits (replies.Listed rows) told = tt
+fills limits (replies.Isolated true) told = tt
+fills limits (replies.Isolated false) told = tt
+fills limits (replies.Stopped totals) told = tt
+fills limits (replies.Bad bads.Arguments) told = tt
+fills limits (replies.Bad bads.Port) told = tt
+fills limits (replies.Bad bads.NotStarted) told = tt
+fills limits (replies.Bad bads.AlreadyStarted) told = tt
+fills limits (replies.Fault fault) told = fault-fills fault.cause fault.at (place-small (told_of fault.cause).place fault.at told)
+fills limits r told = tt
+
+-- the reply of a text and its numbers, where no list stands behind
+abbrev first : List ℕ → ℕ
+first [] = 0
+first (n ∷ ns) = n
+
+abbrev rest : List ℕ → List ℕ
+rest [] = []
+rest (n ∷ ns) = ns
+
+abbrev place_in : Place → List ℕ → ℕ
+place_in places.Nowhere ns = 0
+place_in places.Item ns = first ns
+place_in places.Action ns = first ns
+
+abbrev unspelled : Kind → List ℕ → Option Reply
+unspelled kinds.Validated ns = Some replies.Validated
+unspelled kinds.Created ns = Some (replies.Created (first ns))
+unspelled kinds.Destroyed ns = Some (replies.Destroyed (first ns))
+unspelled kinds.Flushed ns = Some replies.Flushed
+unspelled kinds.Listed ns = None
+unspelled (kinds.Isolated on) ns = Some (replies.Isolated on)
+unspelled kinds.Started ns = Some replies.Started
+unspelled kinds.Stopped ns = None
+unspelled kinds.Bye ns = Some replies.Bye
+unspelled (kinds.Bad kind) ns = Some (replies.Bad kind)
+unspelled (kinds.Refused cause) ns = Some (replies.Fault (record { cause = cause; at = place_in (told_of cause).place (rest ns) }))
+
+abbrev IsPlain : Kind → Type 0
+IsPlain kinds.Listed = ⊥
+IsPlain kinds.Stopped = ⊥
+IsPlain kind = Unit
+
+place-back : (place : Place) (at : ℕ) (own : List ℕ) → PlaceIsTold place at → place_in place (place_numbers place at ++ own) ≡ at
+place-back places.Nowhere at own none = sym none
+place-back places.Item at own small = refl
+place-back places.Action at own small = refl
+
+unspelled-back : (limits : Limits) (r : Reply) → ReplyIsTold limits r → IsPlain (spell r).kind → unspelled (spell r).kind (spell r).numbers ≡ Some r
+unspelled-back limits (replies.Listed rows) told plain = absurd plain
+unspelled-back limits (replies.Stopped totals) told plain = absurd plain
+unspelled-back limits (replies.Fault fault) told plain =
+    let told_cause = told_of fault.cause in
+    ap (λ at. Some (replies.Fault (record { cause = fault.cause; at = at }))) (place-back told_cause.place fault.at (number_in told_cause.number) told)
+unspelled-back limits r told plain = refl
+
+plain-behind : (limits : Limits) (r : Reply) → IsPlain (spell r).kind → behind_text limits r ≡ []
+plain-behind limits (replies.Listed rows) plain = absurd plain
+plain-behind limits (replies.Stopped totals) plain = absurd plain
+plain-behind limits r plain = refl
+
+-- totals with one text
+totals-is : (t u : Totals) → t.received ≡ u.received → t.dropped ≡ u.dropped → t.queues ≡ u.queues → t ≡ u
+totals-is t u p q r =
+    ap (λ x. record { received = x; dropped = t.dropped; queues = t.queues }) p ∙ ap (λ x. record { received = u.received; dropped = x; queues = t.queues }) q
+    ∙ ap (λ x. record { received = u.received; dropped = u.dropped; queues = x }) r
+
+pub totals-same : (limits : Limits) (t u : Totals) (r s : List ℕ) → TotalsAreTold limits t → TotalsAreTold limits u → NoDigit 10 r → NoDigit 10 s → get_or r 0 0 ≢ 44 → get_or s 0 0 ≢ 44
+    → totals_text limits t ++ r ≡ totals_text limits u ++ s → (t ≡ u) × (r ≡ s)
+totals-same limits t u r s told told' stop stop' end end' e =
+    let front = codes "received 0 dropped 0 queues " in
+    let mine = listed (take limits.rxq t.queues) in
+    let yours = listed (take limits.rxq u.queues) in
+    let (counts, lists) = filled-same front (t.received ∷ t.dropped ∷ []) (u.received ∷ u.dropped ∷ []) (mine ++ r) (yours ++ s) refl
+        (told.received, (told.dropped, tt)) (told'.received, (told'.dropped, tt)) tt tt
+        (sym (append_assoc (filled front (t.received ∷ t.dropped ∷ [])) mine r) ∙ e ∙ append_assoc (filled front (u.received ∷ u.dropped ∷ [])) yours s) in
+    let (queues, rests) = listed-same (take limits.rxq t.queues) (take limits.rxq u.queues) r s told.queues told'.queues stop stop' end end' lists in
+    let all : t.queues ≡ u.queues = sym (take-append-drop limits.rxq t.queues) ∙ ap (λ l. l ++ drop limits.rxq t.queues) queues
+        ∙ ap (λ l. take limits.rxq u.queues ++ l) (told.others ∙ sym told'.others) ∙ take-append-drop limits.rxq u.queues in
+    (totals-is t u (ap first counts) (ap (λ l. first (rest l)) counts) all, rests)
+
+abbrev IsStopped : Kind → Type 0
+IsStopped kinds.Stopped = Unit
+IsStopped kind = ⊥
+
+stopped-same : (limits : Limits) (t : Totals) (other : Reply) (r s : List ℕ) → TotalsAreTold limits t → ReplyIsTold limits other → NoDigit 10 r → NoDigit 10 s → get_or r 0 0 ≢ 44 → get_or s 0 0 ≢ 44
+    → kinds.Stopped ≡ (spell other).kind → totals_text limits t ++ r ≡ behind_text limits other ++ s → (replies.Stopped t ≡ other) × (r ≡ s)
+stopped-same limits t (replies.Stopped u) r s told told' stop stop' end end' kind e =
+    let (same, rests) = totals-same limits t u r s told told' stop stop' end end' e in
+    (ap replies.Stopped same, rests)
+stopped-same limits t other r s told told' stop stop' end end' kind e = absurd (subst IsStopped kind tt)
+
+plain-same : (limits : Limits) (a b : Reply) (r s : List ℕ) → ReplyIsTold limits a → ReplyIsTold limits b → IsPlain (spell a).kind
+    → (spell a).kind ≡ (spell b).kind → (spell a).numbers ≡ (spell b).numbers → behind_text limits a ++ r ≡ behind_text limits b ++ s → (a ≡ b) × (r ≡ s)
+plain-same limits a b r s told told' plain kind numbers e =
+    let plain' = subst IsPlain kind plain in
+    let same = sym (unspelled-back limits a told plain) ∙ ap (λ k. unspelled k (spell a).numbers) kind ∙ ap (unspelled (spell b).kind) numbers
+        ∙ unspelled-back limits b told' plain' in
+    (same_Some _ _ same, sym (ap (λ l. l ++ r) (plain-behind limits a plain)) ∙ e ∙ ap (λ l. l ++ s) (plain-behind limits b plain'))
+
+behind-same : (limits : Limits) (a b : Reply) (r s : List ℕ) → ReplyIsTold limits a → ReplyIsTold limits b → NoDigit 10 r → NoDigit 10 s → get_or r 0 0 ≢ 44 → get_or s 0 0 ≢ 44
+    → (spell a).kind ≡ (spell b).kind → (spell a).numbers ≡ (spell b).numbers → behind_text limits a ++ r ≡ behind_text limits b ++ s → (a ≡ b) × (r ≡ s)
+behind-same limits (replies.Listed rows) b r s told told' stop stop' end end' kind numbers e = absurd told
+behind-same limits (replies.Stopped totals) b r s told told' stop stop' end end' kind numbers e =
+    stopped-same limits totals b r s told told' stop stop' end end' kind e
+behind-same limits a b r s told told' stop stop' end end' kind numbers e = plain-same limits a b r s told told' tt kind numbers e
+
+-- replies whose texts begin one text are one reply, and what stands behind is one text
+pub reply-same : (limits : Limits) (a b : Reply) (r s : List ℕ) → ReplyIsTold limits a → ReplyIsTold limits b → NoDigit 10 r → NoDigit 10 s → get_or r 0 0 ≢ 44 → get_or s 0 0 ≢ 44
+    → reply_text limits a ++ r ≡ reply_text limits b ++ s → (a ≡ b) × (r ≡ s)
+reply-same limits a b r s told told' stop stop' end end' e =
+    let mine = filled (kind_form (spell a).kind) (spell a).numbers in
+    let yours = filled (kind_form (spell b).kind) (spell b).numbers in
+    let text = sym (append_assoc mine (behind_text limits a) r) ∙ e ∙ append_assoc yours (behind_text limits b) s in
+    let (kind, rests) = same_parts ((spell a).kind, (spell a).numbers) ((spell b).kind, (spell b).numbers) (behind_text limits a ++ r) (behind_text limits b ++ s)
+        (sym (kind-back (spell a).kind (spell a).numbers _ (fills limits a told) (ends (spell a).kind _)) ∙ ap (front_by kind_rows) text
+        ∙ kind-back (spell b).kind (spell b).numbers _ (fills limits b told') (ends (spell b).kind _)) in
+    behind-same limits a b r s told told' stop stop' end end' (ap (λ p. p.0) kind) (ap (λ p. p.1) kind) rests
+
+pub reply-text-same : (limits : Limits) (a b : Reply) → ReplyIsTold limits a → ReplyIsTold limits b → reply_text limits a ≡ reply_text limits b → a ≡ b
+reply-text-same limits a b told told' e =
+    (reply-same limits a b (10 ∷ []) (10 ∷ []) told told' (lit≤ tt) (lit≤ tt) (λ is. omega (arith, is)) (λ is. omega (arith, is)) (ap (λ t. t ++ 10 ∷ []) e)).0
