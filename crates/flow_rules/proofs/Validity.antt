@@ -10,11 +10,11 @@ use Rattle.flow_rules.specs.declared.spec.Attr.{Attr}
 use Rattle.flow_rules.specs.declared.fault.Fault.{Fault}
 use Rattle.flow_rules.specs.declared.fault.Cause.{Cause}
 use Rattle.flow_rules.specs.declared.fault.Cause.TheVariants as causes
-use Rattle.flow_rules.specs.Faults.{first, fault_if, attr_faults, direction_faults, item_fault, is_bad, action_faults, first_fault}
+use Rattle.flow_rules.specs.Faults.{Kinds, first, fault_if, attr_faults, direction_faults, item_fault, is_bad, action_faults, first_fault}
 use Rattle.flow_rules.specs.declared.limits.Limits.{Limits}
 use Rattle.flow_rules.specs.declared.spec.RuleSpec.{RuleSpec}
 use Rattle.pattern_items.specs.Faults.{faults_of}
-use Rattle.flow_rules.specs.Valid.{IsGood, IsValid, IsOnPort, has_fate, MAX_GROUP, MAX_PRIORITY}
+use Rattle.flow_rules.specs.Valid.{IsGood, IsValid, IsOnPort, has_fate}
 
 first-left : (xs ys : List Fault) → first (xs ++ ys) ≡ None → first xs ≡ None
 first-left [] ys e = refl
@@ -33,21 +33,21 @@ good rxq group actions.Void most fine = tt
 good rxq group (actions.Queue queue) most fine = omega (arith, leb-false rxq queue fine)
 good rxq group actions.Drop most fine = tt
 good rxq group (actions.Jump to) most fine =
-    let parts = or_parts (nat_lt MAX_GROUP to) (nat_le to group) fine in
-    (leb-false to group parts.1, ltb-false MAX_GROUP to parts.0)
+    let parts = or_parts (nat_lt 15 to) (nat_le to group) fine in
+    (leb-false to group parts.1, ltb-false 15 to parts.0)
 
 -- the parts of the faults behind the first action
-record Clear (rxq group place : ℕ) (fated : Bool) (action : Action) (list : List Action) : Type 0 where
+record Clear (rxq : ℕ) (known : Kinds) (group place : ℕ) (fated : Bool) (action : Action) (list : List Action) : Type 0 where
   value : is_bad rxq group action ≡ false
   fate : (fated && has_fate action) ≡ false
-  others : first (action_faults rxq group (place + 1) (fated || has_fate action) list) ≡ None
+  others : first (action_faults rxq known group (place + 1) (fated || has_fate action) list) ≡ None
 
-clear : (rxq group place : ℕ) (fated : Bool) (action : Action) (list : List Action)
-    → first (action_faults rxq group place fated (action ∷ list)) ≡ None → Clear rxq group place fated action list
-clear rxq group place fated action list none =
+clear : (rxq : ℕ) (known : Kinds) (group place : ℕ) (fated : Bool) (action : Action) (list : List Action)
+    → first (action_faults rxq known group place fated (action ∷ list)) ≡ None → Clear rxq known group place fated action list
+clear rxq known group place fated action list none =
     let bad = fault_if (is_bad rxq group action) causes.ActionConf place in
     let second = fault_if (fated && has_fate action) causes.SecondFate place in
-    let rest = action_faults rxq group (place + 1) (fated || has_fate action) list in
+    let rest = action_faults rxq known group (place + 1) (fated || has_fate action) list in
     let later = first-right bad (second ++ rest) none in
     record {
       value = first-if (is_bad rxq group action) causes.ActionConf place (first-left bad (second ++ rest) none);
@@ -55,24 +55,24 @@ clear rxq group place fated action list none =
       others = first-right second rest later;
     }
 
-pub values : (rxq group place : ℕ) (fated : Bool) (list : List Action) → rxq ≤ 256
-    → first (action_faults rxq group place fated list) ≡ None → All (IsGood group) list
-values rxq group place fated [] most none = All-nil (IsGood group)
-values rxq group place fated (action ∷ list) most none =
-    let c = clear rxq group place fated action list none in
-    All-cons (IsGood group) action list (good rxq group action most c.value) (values rxq group (place + 1) (fated || has_fate action) list most c.others)
+pub values : (rxq : ℕ) (known : Kinds) (group place : ℕ) (fated : Bool) (list : List Action) → rxq ≤ 256
+    → first (action_faults rxq known group place fated list) ≡ None → All (IsGood group) list
+values rxq known group place fated [] most none = All-nil (IsGood group)
+values rxq known group place fated (action ∷ list) most none =
+    let c = clear rxq known group place fated action list none in
+    All-cons (IsGood group) action list (good rxq group action most c.value) (values rxq known group (place + 1) (fated || has_fate action) list most c.others)
 
 -- a fate that stands before them counts too
-pub one_fate : (rxq group place : ℕ) (fated : Bool) (list : List Action)
-    → first (action_faults rxq group place fated list) ≡ None → count_by has_fate list + cond fated 1 0 ≤ 1
-one_fate rxq group place true [] none = omega arith
-one_fate rxq group place false [] none = omega arith
-one_fate rxq group place fated (action ∷ list) none =
-    let c = clear rxq group place fated action list none in
+pub one_fate : (rxq : ℕ) (known : Kinds) (group place : ℕ) (fated : Bool) (list : List Action)
+    → first (action_faults rxq known group place fated list) ≡ None → count_by has_fate list + cond fated 1 0 ≤ 1
+one_fate rxq known group place true [] none = omega arith
+one_fate rxq known group place false [] none = omega arith
+one_fate rxq known group place fated (action ∷ list) none =
+    let c = clear rxq known group place fated action list none in
     let split : count_by has_fate (action ∷ list) ≡ cond (has_fate action) 1 0 + count_by has_fate list =
     sum_by-append (λ a. cond (has_fate a) 1 0) (action ∷ []) list ∙ ap (λ n. n + count_by has_fate list) (zero-add (cond (has_fate action) 1 0)) in
     subst (λ n. n + cond fated 1 0 ≤ 1) (sym split)
-    (step fated (has_fate action) (count_by has_fate list) c.fate (one_fate rxq group (place + 1) (fated || has_fate action) list c.others)) where
+    (step fated (has_fate action) (count_by has_fate list) c.fate (one_fate rxq known group (place + 1) (fated || has_fate action) list c.others)) where
       step : (fated here : Bool) (n : ℕ) → (fated && here) ≡ false → n + cond (fated || here) 1 0 ≤ 1 → (cond here 1 0 + n) + cond fated 1 0 ≤ 1
       step true true n fine most = cc
       step true false n fine most = omega (arith, most)
@@ -82,12 +82,12 @@ one_fate rxq group place fated (action ∷ list) none =
 pub IsValid-clear : (attr : Attr) (list : List Action) → first (attr_faults attr) ≡ None → All (IsGood attr.group) list → count_by has_fate list ≤ 1
     → IsValid attr.group attr.priority list
 IsValid-clear attr list clear_attr good_values one =
-    let low = fault_if (nat_lt MAX_GROUP attr.group) causes.GroupRange 0 in
-    let high = fault_if (nat_lt MAX_PRIORITY attr.priority) causes.PriorityRange 0 in
+    let low = fault_if (nat_lt 15 attr.group) causes.GroupRange 0 in
+    let high = fault_if (nat_lt 65535 attr.priority) causes.PriorityRange 0 in
     let rest = direction_faults attr in
     record {
-      in_groups = ltb-false MAX_GROUP attr.group (first-if (nat_lt MAX_GROUP attr.group) causes.GroupRange 0 (first-left low (high ++ rest) clear_attr));
-      in_priorities = ltb-false MAX_PRIORITY attr.priority (first-if (nat_lt MAX_PRIORITY attr.priority) causes.PriorityRange 0
+      in_groups = ltb-false 15 attr.group (first-if (nat_lt 15 attr.group) causes.GroupRange 0 (first-left low (high ++ rest) clear_attr));
+      in_priorities = ltb-false 65535 attr.priority (first-if (nat_lt 65535 attr.priority) causes.PriorityRange 0
           (first-left high rest (first-right low (high ++ rest) clear_attr)));
       values = good_values;
       one_fate = one;
@@ -99,18 +99,18 @@ on_port rxq group (actions.Queue queue) fine = leb-false rxq queue fine
 on_port rxq group actions.Drop fine = tt
 on_port rxq group (actions.Jump to) fine = tt
 
-all_on_port : (rxq group place : ℕ) (fated : Bool) (list : List Action)
-    → first (action_faults rxq group place fated list) ≡ None → All (IsOnPort rxq) list
-all_on_port rxq group place fated [] none = All-nil (IsOnPort rxq)
-all_on_port rxq group place fated (action ∷ list) none =
-    let c = clear rxq group place fated action list none in
-    All-cons (IsOnPort rxq) action list (on_port rxq group action c.value) (all_on_port rxq group (place + 1) (fated || has_fate action) list c.others)
+all_on_port : (rxq : ℕ) (known : Kinds) (group place : ℕ) (fated : Bool) (list : List Action)
+    → first (action_faults rxq known group place fated list) ≡ None → All (IsOnPort rxq) list
+all_on_port rxq known group place fated [] none = All-nil (IsOnPort rxq)
+all_on_port rxq known group place fated (action ∷ list) none =
+    let c = clear rxq known group place fated action list none in
+    All-cons (IsOnPort rxq) action list (on_port rxq group action c.value) (all_on_port rxq known group (place + 1) (fated || has_fate action) list c.others)
 
 -- the queues of a rule without a fault are the port's
-pub on_port-clear : (limits : Limits) (spec : RuleSpec) → first_fault limits spec ≡ None → All (IsOnPort limits.rxq) spec.actions.list.items
-on_port-clear limits spec none =
-    let list = action_faults limits.rxq spec.attr.group 0 false spec.actions.list.items in
+pub on_port-clear : (limits : Limits) (known : Kinds) (spec : RuleSpec) → first_fault limits known spec ≡ None → All (IsOnPort limits.rxq) spec.actions.list.items
+on_port-clear limits known spec none =
+    let list = action_faults limits.rxq known spec.attr.group 0 false spec.actions.list.items in
     let more = fault_if (nat_lt 0 spec.actions.more) causes.TooManyActions 0 in
     let items = map item_fault (faults_of spec.pattern) in
-    all_on_port limits.rxq spec.attr.group 0 false spec.actions.list.items
+    all_on_port limits.rxq known spec.attr.group 0 false spec.actions.list.items
     (first-right more list (first-right items (more ++ list) (first-right (attr_faults spec.attr) (items ++ (more ++ list)) none)))

@@ -6,6 +6,7 @@ use Rattle.pattern_items.specs.Faults.{faults_of}
 use Rattle.pattern_items.specs.Matches.{test_of}
 use Rattle.flow_actions.specs.declared.action.Action.{Action}
 use Rattle.flow_actions.specs.declared.action.Action.TheVariants as actions
+use Rattle.flow_actions.specs.declared.action.ActionKind.{ActionKind}
 use Rattle.flow_rules.specs.declared.spec.Attr.{Attr}
 use Rattle.flow_rules.specs.declared.spec.RuleSpec.{RuleSpec}
 use Rattle.flow_rules.specs.declared.limits.Limits.{Limits}
@@ -13,7 +14,7 @@ use Rattle.flow_rules.specs.declared.fault.Fault.{Fault}
 use Rattle.flow_rules.specs.declared.fault.Cause.{Cause}
 use Rattle.flow_rules.specs.declared.fault.Cause.TheVariants as causes
 use Rattle.flow_rules.specs.RuleView.{RuleView}
-use Rattle.flow_rules.specs.Valid.{MAX_GROUP, MAX_PRIORITY, has_fate}
+use Rattle.flow_rules.specs.Valid.{has_fate}
 
 -- a fault of this cause at this place, where there is one
 abbrev pub fault_if : Bool → Cause → ℕ → List Fault
@@ -24,10 +25,11 @@ fault_if false cause place = []
 abbrev pub direction_faults : Attr → List Fault
 direction_faults attr = fault_if attr.egress causes.Egress 0 ++ (fault_if attr.transfer causes.Transfer 0 ++ fault_if (not attr.ingress) causes.NoIngress 0)
 
+-- there are 16 groups, and priorities have 16 bits
 abbrev pub attr_faults : Attr → List Fault
 attr_faults attr =
-    fault_if (nat_lt MAX_GROUP attr.group) causes.GroupRange 0
-    ++ (fault_if (nat_lt MAX_PRIORITY attr.priority) causes.PriorityRange 0 ++ direction_faults attr)
+    fault_if (nat_lt 15 attr.group) causes.GroupRange 0
+    ++ (fault_if (nat_lt 65535 attr.priority) causes.PriorityRange 0 ++ direction_faults attr)
 
 -- a pattern's fault as a rule's
 abbrev pub item_fault : ItemFault → Fault
@@ -41,31 +43,35 @@ abbrev pub is_bad : ℕ → ℕ → Action → Bool
 is_bad rxq group actions.Void = false
 is_bad rxq group (actions.Queue queue) = nat_le rxq queue
 is_bad rxq group actions.Drop = false
-is_bad rxq group (actions.Jump to) = nat_lt MAX_GROUP to || nat_le to group
+is_bad rxq group (actions.Jump to) = nat_lt 15 to || nat_le to group
+
+-- what is known of the actions that rules share: the kind of the one of an id, if one is in effect
+abbrev pub Kinds : Type 0
+Kinds = ℕ → Option ActionKind
 
 -- the faults of the actions from a place on, in a rule of this group, on a port of `rxq` Rx queues; `fated` says whether a fate stands before them
-abbrev pub action_faults : ℕ → ℕ → ℕ → Bool → List Action → List Fault
-action_faults rxq group place fated [] = []
-action_faults rxq group place fated (action ∷ list) =
+abbrev pub action_faults : ℕ → Kinds → ℕ → ℕ → Bool → List Action → List Fault
+action_faults rxq known group place fated [] = []
+action_faults rxq known group place fated (action ∷ list) =
     fault_if (is_bad rxq group action) causes.ActionConf place
     ++ (fault_if (fated && has_fate action) causes.SecondFate place
-    ++ action_faults rxq group (place + 1) (fated || has_fate action) list)
+    ++ action_faults rxq known group (place + 1) (fated || has_fate action) list)
 
 -- all faults of a rule
-abbrev pub rule_faults : Limits → RuleSpec → List Fault
-rule_faults limits spec =
+abbrev pub rule_faults : Limits → Kinds → RuleSpec → List Fault
+rule_faults limits known spec =
     attr_faults spec.attr
     ++ (map item_fault (faults_of spec.pattern)
     ++ (fault_if (nat_lt 0 spec.actions.more) causes.TooManyActions 0
-    ++ action_faults limits.rxq spec.attr.group 0 false spec.actions.list.items))
+    ++ action_faults limits.rxq known spec.attr.group 0 false spec.actions.list.items))
 
 abbrev pub first : List Fault → Option Fault
 first [] = None
 first (fault ∷ _) = Some fault
 
 -- the first fault of a rule
-abbrev pub first_fault : Limits → RuleSpec → Option Fault
-first_fault limits spec = first (rule_faults limits spec)
+abbrev pub first_fault : Limits → Kinds → RuleSpec → Option Fault
+first_fault limits known spec = first (rule_faults limits known spec)
 
 -- the rule that was asked for
 abbrev pub rule_of : ℕ → RuleSpec → RuleView

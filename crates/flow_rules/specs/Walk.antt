@@ -1,51 +1,80 @@
--- The walk of a frame over the groups of rules (rte_flow guide: groups and jumps).
-use Rattle.std.specs.Prelude.{ℕ, zero, suc, Bool, true, false, List, [], ◌∷◌, ◌++◌, Option, None, Some}
+-- The walk of a frame over the groups of rules (rte_flow guide: groups and jumps). It is one fold: a record of what the walk
+-- carries, and one definition that performs an action on it.
+use Rattle.std.specs.Prelude.{ℕ, zero, suc, Bool, true, false, List, [], ◌∷◌, ◌++◌, fold, Option, None, Some}
 use Rattle.packet_headers.specs.declared.items.LayerAt.{LayerAt}
+use Rattle.packet_headers.specs.declared.edits.Edit.{Edit}
+use Rattle.flow_actions.specs.declared.action.Action.{Action}
+use Rattle.flow_actions.specs.declared.action.Action.TheVariants as actions
 use Rattle.flow_actions.specs.declared.verdict.Fate.{Fate}
 use Rattle.flow_actions.specs.declared.verdict.Fate.TheVariants as fates
 use Rattle.flow_actions.specs.declared.verdict.Verdict.{Verdict}
-use Rattle.flow_rules.specs.declared.next.Next.{Next}
-use Rattle.flow_rules.specs.declared.next.Next.TheVariants as nexts
+use Rattle.flow_rules.specs.declared.counter.Counter.{Counter}
+use Rattle.flow_rules.specs.declared.walk.Course.{Course}
+use Rattle.flow_rules.specs.declared.walk.Course.TheVariants as courses
 use Rattle.flow_rules.specs.RuleView.{RuleView}
 use Rattle.flow_rules.specs.Best.{best}
-use Rattle.flow_rules.specs.Fates.{next_of}
 
 -- what packets see: the rules in effect, in the order in which they took effect, and whether a miss drops
 pub record Flows : Type 0 where
   pub rules : List RuleView
   pub isolated : Bool
 
+-- What a walk carries: the frame's layers as edited so far, its mark, its RSS hash, the ids of the rules on its path, the
+-- counters that were named, one element a naming, the edits that were done, and where it goes on.
+pub record Walked : Type 0 where
+  pub layers : List LayerAt
+  pub mark : Option ℕ
+  pub hash : Option ℕ
+  pub path : List ℕ
+  pub named : List Counter
+  pub edits : List Edit
+  pub next : Course
+
+-- a walk begins in group 0
+abbrev pub start : List LayerAt → Walked
+start layers = record { layers = layers; mark = None; hash = None; path = []; named = []; edits = []; next = courses.Group 0 }
+
+-- an action of a rule is performed
+abbrev pub performed : Flows → RuleView → Walked → Action → Walked
+performed flows rule walked actions.Void = walked
+performed flows rule walked (actions.Queue queue) = record walked { next = courses.End (fates.Queue queue) }
+performed flows rule walked actions.Drop = record walked { next = courses.End fates.Drop }
+performed flows rule walked (actions.Jump group) = record walked { next = courses.Group group }
+
 -- a frame that no rule of a group takes goes to queue 0, or is dropped in isolated mode
 abbrev pub missed : Bool → Fate
 missed true = fates.Drop
 missed false = fates.Queue 0
 
-abbrev pub verdict : Fate → List ℕ → Verdict
-verdict fate path = record { fate = fate; mark = None; hash = None; path = record { items = path } }
+-- A group was visited: the rule that takes the frame joins the path, and its actions are performed in order. Without a
+-- fate among them the frame goes to queue 0.
+abbrev pub visited : Flows → Walked → Option RuleView → Walked
+visited flows walked None = record walked { next = courses.End (missed flows.isolated) }
+visited flows walked (Some rule) =
+    fold (performed flows rule) (record walked { path = walked.path ++ rule.id ∷ []; next = courses.End (fates.Queue 0) }) rule.actions
 
--- where a walk goes on: a group, and the rules on the path to it
-abbrev pub GoesOn : Type 0
-GoesOn = ℕ → List ℕ → Verdict
+abbrev pub gone_on : (Walked → Walked) → Flows → Walked → Course → Walked
+gone_on go flows walked (courses.End fate) = walked
+gone_on go flows walked (courses.Group group) = go (visited flows walked (best flows.rules group walked.layers))
 
-abbrev pub walk_on : GoesOn → List ℕ → Next → Verdict
-walk_on goes_on path (nexts.End fate) = verdict fate path
-walk_on goes_on path (nexts.Group group) = goes_on group path
+-- so many visits at most, and none behind the end
+abbrev pub walked_by : ℕ → Flows → Walked → Walked
+walked_by zero flows walked = walked
+walked_by (suc more) flows walked = gone_on (walked_by more flows) flows walked walked.next
 
--- the rule that takes the frame joins the path, and its fate decides
-abbrev pub walk_by : GoesOn → Bool → List ℕ → Option RuleView → Verdict
-walk_by goes_on isolated path None = verdict (missed isolated) path
-walk_by goes_on isolated path (Some rule) = walk_on goes_on (path ++ rule.id ∷ []) (next_of rule.actions)
+-- There are 16 groups, and jumps go to later ones, so 16 visits are enough: over valid rules more of them change nothing.
+unfoldable pub walk : Flows → List LayerAt → Walked
+walk flows layers = walked_by 16 flows (start layers)
 
--- The walk from a group on, behind the rules on the path. Jumps go to later groups, so it meets so many more groups at
--- most as there are.
-abbrev pub walk_from : ℕ → Flows → List LayerAt → ℕ → List ℕ → Verdict
-walk_from zero flows layers group path = verdict (missed flows.isolated) path
-walk_from (suc more) flows layers group path = walk_by (walk_from more flows layers) flows.isolated path (best flows.rules group layers)
+-- where a walk ended; one that didn't end would count as a miss
+abbrev pub fate_of : Bool → Course → Fate
+fate_of isolated (courses.End fate) = fate
+fate_of isolated (courses.Group group) = missed isolated
 
--- the groups that there are
-abbrev pub GROUPS : ℕ
-GROUPS = 16
+-- what the verdict tells of a walk
+abbrev pub verdict_in : Flows → Walked → Verdict
+verdict_in flows walked = record { fate = fate_of flows.isolated walked.next; mark = walked.mark; hash = walked.hash; path = record { items = walked.path } }
 
--- the verdict on a frame of these layers: the walk begins in group 0
-abbrev pub verdict_of : Flows → List LayerAt → Verdict
-verdict_of flows layers = walk_from GROUPS flows layers 0 []
+-- the verdict on a frame of these layers
+unfoldable pub verdict_of : Flows → List LayerAt → Verdict
+verdict_of flows layers = verdict_in flows (walk flows layers)

@@ -15,30 +15,35 @@
 //! then those of the actions, action by action. The code stops at the first one and makes no list.
 //!
 //! `specs/Best` and `specs/Walk` have what rules do to frames. A frame begins in group 0. Of the rules of a group that
-//! match it, that with the lowest priority number takes it, and among equals the one that took effect earlier. Its fate
-//! ends the walk or sends the frame on to a later group. So a walk meets at most 16 groups. The crates above keep rules
-//! in their own ways, and prove that they give what a scan of the list gives.
+//! match it, that with the lowest priority number takes it, and among equals the one that took effect earlier. Its actions
+//! are performed in order, each on one record of what the walk carries, and its fate ends the walk or sends the frame on to
+//! a later group. So a walk meets at most 16 groups ([`more_visits_change_nothing`]). [`classify`] is the walk in code, for
+//! all who keep the rules in effect in their own ways and find the best of a group ([`FlowsInEffect`]).
 //!
 //! The model: a rule is plain data, with the test that its pattern makes. Nothing here takes memory.
 #![tactic(auto)]
 
 mod change;
+mod counter;
 mod fault;
 mod known;
+mod laws;
 mod limits;
-mod next;
 mod rule;
 mod spec;
 mod validation;
+mod walk;
 
 pub use change::Change;
+pub use counter::Counter;
 pub use fault::{Cause, ErrorType, Fault};
 pub use known::Known;
+pub use laws::more_visits_change_nothing;
 pub use limits::Limits;
-pub use next::Next;
 pub use rule::Rule;
 pub use spec::{Attr, RuleSpec};
 pub use validation::validate;
+pub use walk::{FlowsInEffect, classify};
 
 #[cfg(test)]
 mod tests;

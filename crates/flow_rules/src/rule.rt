@@ -1,10 +1,8 @@
 //! Valid rules.
-ghost use Rattle.std.specs.Prelude.{◌≡◌, ◌≤◌, length};
-ghost use Rattle.flow_rules.specs.Fates.{next_of};
+ghost use Rattle.std.specs.Prelude.{◌≡◌};
+ghost use Rattle.flow_rules.specs.Valid.{IsValid};
 
-use crate::next::Next;
-use arrayvec::ArrayVec;
-use flow_actions::{Action, Fate, MAX_ACTIONS};
+use flow_actions::Actions;
 use pattern_items::Test;
 use std::marker::Model;
 
@@ -16,7 +14,7 @@ pub struct Rule {
     pub(crate) group: u32,
     pub(crate) priority: u32,
     pub(crate) test: Test,
-    pub(crate) actions: ArrayVec<Action, MAX_ACTIONS>,
+    pub(crate) actions: Actions,
 }
 
 impl Model for Rule {
@@ -61,25 +59,11 @@ impl Rule {
     }
 
     /// Its actions, in order.
-    pub fn actions(&self) -> &[Action]
-        ensures value { result.now ≡ self.now.actions }
-        ensures few { length result.now ≤ MAX_ACTIONS }
+    pub fn actions(&self) -> &Actions
+        ensures list { result.now.list.items ≡ self.now.actions }
+        ensures whole { result.now.more ≡ 0 }
+        ensures valid { IsValid self.now.group self.now.priority result.now.list.items }
     {
-        self.actions.as_slice()
-    }
-
-    /// Where it sends a frame. A rule without a fate delivers it to queue 0.
-    pub fn next(&self) -> Next
-        ensures { result ≡ next_of self.now.actions }
-    {
-        for action in self.actions.as_slice() {
-            match action {
-                Action::Void => {}
-                Action::Queue(queue) => return Next::End(Fate::Queue(*queue as u8)),
-                Action::Drop => return Next::End(Fate::Drop),
-                Action::Jump(group) => return Next::Group(*group),
-            }
-        }
-        Next::End(Fate::Queue(0))
+        &self.actions
     }
 }

@@ -10,7 +10,7 @@ use crate::limits::Limits;
 use crate::rule::Rule;
 use crate::spec::{Attr, RuleSpec};
 use arrayvec::ArrayVec;
-use flow_actions::{Action, MAX_ACTIONS};
+use flow_actions::{Action, Actions, MAX_ACTIONS};
 use pattern_items::{ItemFault, compile};
 
 /// The last group.
@@ -20,7 +20,7 @@ const MAX_GROUP: u32 = 15;
 const MAX_PRIORITY: u32 = 65_535;
 
 /// The rule of this id that was asked for, or its first fault: the attributes' first, then the pattern's, item by item,
-/// then the actions', one by one. So far no action names an action that rules share, so `known` isn't asked.
+/// then the actions', one by one.
 pub fn validate<N: Known>(
     spec_in: &RuleSpec,
     limits: &Limits,
@@ -28,9 +28,8 @@ pub fn validate<N: Known>(
     id: u32,
 ) -> Result<Rule, Fault>
     ensures rule { IfOk result (λ rule. rule ≡ rule_of id spec_in.now) }
-    ensures fault { result_err result ≡ first_fault limits.now spec_in.now }
+    ensures fault { result_err result ≡ first_fault limits.now (N.kinds known.now) spec_in.now }
 {
-    let _ = known;
     if let Some(fault) = attr_fault(&spec_in.attr) {
         return Err(fault);
     }
@@ -42,6 +41,7 @@ pub fn validate<N: Known>(
         return Err(fault(Cause::TooManyActions, 0));
     }
     if let Some(fault) = action_fault(
+        known,
         limits.rxq,
         spec_in.attr.group,
         spec_in.actions.list.as_slice(),
@@ -53,7 +53,10 @@ pub fn validate<N: Known>(
         group: spec_in.attr.group,
         priority: spec_in.attr.priority,
         test,
-        actions: copy_of(&spec_in.actions.list),
+        actions: Actions {
+            list: copy_of(&spec_in.actions.list),
+            more: 0,
+        },
     })
 }
 
@@ -109,13 +112,15 @@ fn has_bad_value(rxq: u8, group: u32, action: &Action) -> bool
     }
 }
 
-/// The first fault of the actions of a rule of this group.
-fn action_fault(rxq: u8, group: u32, list: &[Action]) -> Option<Fault>
-    requires { length list.now ≤ MAX_ACTIONS }
-    ensures first { result ≡ first (action_faults rxq group 0 false list.now) }
+/// The first fault of the actions of a rule of this group. So far no action names an action that rules share, so `known`
+/// isn't asked.
+fn action_fault<N: Known>(known: &N, rxq: u8, group: u32, list: &[Action]) -> Option<Fault>
+    requires { length list.now ≤ 16 }
+    ensures first { result ≡ first (action_faults rxq (N.kinds known.now) group 0 false list.now) }
     ensures values { result ≡ None → All (IsGood group) list.now }
     ensures one_fate { result ≡ None → count_by has_fate list.now ≤ 1 }
 {
+    let _ = known;
     let mut place: u16 = 0;
     let mut fated = false;
     for action in list {

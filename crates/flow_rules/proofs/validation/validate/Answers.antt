@@ -1,4 +1,4 @@
-use Rattle.std.proofs.Common.{List, sym, ◌∙◌, subst}
+use Rattle.std.proofs.Common.{List, refl, sym, ◌∙◌, subst}
 use Rattle.flow_actions.specs.declared.action.Action.{Action}
 use Rattle.flow_rules.specs.Valid.{IsValid}
 use Rattle.flow_rules.proofs.Validity.{IsValid-clear}
@@ -9,4 +9,4 @@ invariant_of-result g c =
     let fine = c.in_default-action_fault.is in
     let at_slice = IsValid-clear c.args.spec_in.now.attr c.as_slice.result.now (sym c.attr_fault.ensures ∙ c.in_default.is)
     (c.action_fault.ensures.values fine) (c.action_fault.ensures.one_fate fine) in
-    subst (λ (list : List Action). IsValid c.args.spec_in.now.attr.group c.args.spec_in.now.attr.priority list) (c.as_slice.ensures.value ∙ sym c.copy_of.ensures) at_slice
+    (subst (λ (list : List Action). IsValid c.args.spec_in.now.attr.group c.args.spec_in.now.attr.priority list) (c.as_slice.ensures.value ∙ sym c.copy_of.ensures) at_slice, refl)
