@@ -1,3 +1,4 @@
-pub mod FatesBelow
+pub mod Scanning
 pub mod SoundGrowth
+pub mod StateKept
 pub mod TotalsGrowth

@@ -16,7 +16,8 @@ use Rattle.flow_actions.specs.declared.verdict.Fate.TheVariants as fates
 use Rattle.adapter.specs.declared.entry.Entry.{Entry}
 use Rattle.adapter.specs.declared.entry.Entry.TheVariants.{Asked, Passed}
 use Rattle.adapter.specs.Totals.{totals_of, queue_totals, passes_by, is_queue, is_any_fate, is_drop}
-use Rattle.adapter.specs.Counted.{counted, IsBelow, HasRoom}
+use Rattle.flow_rules.specs.OnPort.{IsBelow}
+use Rattle.adapter.specs.Counted.{counted, HasRoom}
 
 -- one more entry adds one to the count where it passes
 pub count_by-push : (p : Entry → Bool) (h : List Entry) (e : Entry) → count_by p (h ++ e ∷ []) ≡ count_by p h + cond (p e) 1 0

@@ -9,11 +9,6 @@ abbrev pub counted : Totals → Fate → Totals
 counted t (fates.Queue q) = record t { received = t.received + 1; queues = slice_set t.queues q (slice_index t.queues q + 1) }
 counted t fates.Drop = record t { received = t.received + 1; dropped = t.dropped + 1 }
 
--- the queue is one of so many
-abbrev pub IsBelow : ℕ → Fate → Type 0
-IsBelow n (fates.Queue q) = q < n
-IsBelow n fates.Drop = Unit {0}
-
 -- each total can still rise
 pub record HasRoom (t : Totals) : Type 0 where
   pub received : t.received + 1 < 2 ^ 64

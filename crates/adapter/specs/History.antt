@@ -6,14 +6,14 @@ use Rattle.adapter.specs.declared.call.Call.{Call}
 use Rattle.adapter.specs.declared.parcel.Parcel.{Parcel}
 use Rattle.adapter.specs.declared.entry.Entry.{Entry}
 use Rattle.adapter.specs.declared.entry.Entry.TheVariants.{Asked, Passed}
-use Rattle.adapter.specs.State.{state_of}
+use Rattle.adapter.specs.State.{flows_of, state_of}
 use Rattle.adapter.specs.Reply.{reply_to}
 use Rattle.flow_rules.specs.Walk.{verdict_of}
 
 -- the entry is right behind these entries
 abbrev pub IsRight : Limits → List Entry → Entry → Type 0
 IsRight limits before (Asked caller call reply) = reply ≡ reply_to limits before call.op
-IsRight limits before (Passed caller parcel verdict) = verdict ≡ verdict_of (state_of limits before).flows parcel.key
+IsRight limits before (Passed caller parcel verdict) = verdict ≡ verdict_of (flows_of (state_of limits before)) parcel.key
 
 -- the entries are right behind those before them, each in turn
 abbrev pub IsLegalBehind : Limits → List Entry → List Entry → Type 0
@@ -29,4 +29,4 @@ asked_by limits before caller call = Asked caller call (reply_to limits before c
 
 -- the entry that a frame makes behind a history
 abbrev pub passed_by : Limits → List Entry → Caller → Parcel → Entry
-passed_by limits before caller parcel = Passed caller parcel (verdict_of (state_of limits before).flows parcel.key)
+passed_by limits before caller parcel = Passed caller parcel (verdict_of (flows_of (state_of limits before)) parcel.key)

@@ -1,11 +1,15 @@
+pub mod Changes
 pub mod Counted
+pub mod Effect
 pub mod History
 pub mod Kept
 pub mod Reply
+pub mod Room
 pub mod Rows
 pub mod Scan
 pub mod Seen
 pub mod Sound
 pub mod Standing
 pub mod State
+pub mod StateInside
 pub mod Totals

@@ -1,37 +1,61 @@
 -- The state behind a history, and what each call does to it.
-use Rattle.std.specs.Prelude.{ℕ, ◌+◌, ◌-◌, ◌^◌, Bool, true, false, List, [], length, nat_le, if◌then◌else◌, Option, None, Some, fold}
+use Rattle.std.specs.Prelude.{ℕ, ◌+◌, ◌-◌, ◌^◌, Bool, true, false, not, ◌&&◌, List, [], ◌∷◌, ◌++◌, map, filter, count_by, nat_le, if◌then◌else◌, Option, None, Some, fold}
 use Rattle.std.specs.List.{list_any}
+use Rattle.std.specs.Option.{is_none}
 use Rattle.flow_rules.specs.declared.limits.Limits.{Limits}
 use Rattle.flow_rules.specs.declared.spec.RuleSpec.{RuleSpec}
 use Rattle.flow_rules.specs.declared.fault.Fault.{Fault}
 use Rattle.flow_rules.specs.declared.fault.Cause.{Cause}
 use Rattle.flow_rules.specs.declared.fault.Cause.TheVariants as causes
-use Rattle.flow_rules.specs.declared.change.Change.{Change}
-use Rattle.flow_rules.specs.declared.change.Change.TheVariants as changes
-use Rattle.flow_rules.specs.Faults.{first_fault, rule_of}
+use Rattle.flow_rules.specs.Faults.{Kinds, first_fault, rule_of}
+use Rattle.flow_rules.specs.RuleView.{RuleView}
 use Rattle.flow_rules.specs.Walk.{Flows}
-use Rattle.flow_rules.specs.Changes.{has_id, changed}
+use Rattle.flow_rules.specs.Changes.{has_id}
 use Rattle.adapter.specs.declared.call.Op.{Op}
 use Rattle.adapter.specs.declared.call.Op.TheVariants as ops
 use Rattle.adapter.specs.declared.entry.Entry.{Entry}
 use Rattle.adapter.specs.declared.entry.Entry.TheVariants.{Asked, Passed}
+use Rattle.adapter.specs.declared.in_effect.InEffect.{InEffect}
 
--- what packets see, and the number of rule ids that were given
+-- the rules in effect, in the order in which they took effect, each with its table, if it has one; whether a miss drops; and
+-- how many rule ids were given
 pub record State : Type 0 where
-  pub flows : Flows
+  pub rules : List InEffect
+  pub isolated : Bool
   pub ids : ℕ
 
 abbrev pub opening : State
-opening = record { flows = record { rules = []; isolated = false }; ids = 0 }
+opening = record { rules = []; isolated = false; ids = 0 }
+
+-- what packets see of a state
+abbrev pub rule_in : InEffect → RuleView
+rule_in r = r.rule
+
+abbrev pub flows_of : State → Flows
+flows_of s = record { rules = map rule_in s.rules; isolated = s.isolated }
+
+-- a rule that stands in no table: `flow create` made it, and `flow destroy` takes it away
+abbrev pub is_plain : InEffect → Bool
+is_plain r = is_none r.table
+
+abbrev pub is_plain_of : ℕ → InEffect → Bool
+is_plain_of id r = has_id id r.rule && is_plain r
+
+abbrev pub is_in_effect : ℕ → State → Bool
+is_in_effect id s = list_any (is_plain_of id) s.rules
+
+-- what is known of the actions that rules share: there are none
+abbrev pub kinds_in : State → Kinds
+kinds_in s id = None
 
 -- a fault that names no place
 abbrev pub plain : Cause → Fault
 plain cause = record { cause = cause; at = 0 }
 
--- as many rules are in effect as may be, or as many ids were given as there are
+-- as many rules without a table are in effect as may be, or as many ids were given as there are
 abbrev pub room_fault : Limits → State → Option Fault
 room_fault limits s =
-    if nat_le limits.flow_max (length s.flows.rules) then Some (plain causes.StoreFull)
+    if nat_le limits.flow_max (count_by is_plain s.rules) then Some (plain causes.StoreFull)
     else if nat_le (2 ^ 32 - 1) s.ids then Some (plain causes.TooMany)
     else None
 
@@ -41,55 +65,52 @@ first_of (Some fault) second = Some fault
 
 -- the first fault of a creation
 abbrev pub create_fault : Limits → State → RuleSpec → Option Fault
-create_fault limits s spec = first_of (first_fault limits spec) (room_fault limits s)
+create_fault limits s spec = first_of (first_fault limits (kinds_in s) spec) (room_fault limits s)
 
--- a rule of this id is in effect
-abbrev pub is_in_effect : ℕ → State → Bool
-is_in_effect id s = list_any (has_id id) s.flows.rules
+-- a rule takes effect, behind all others
+abbrev pub took_effect : InEffect → State → State
+took_effect rule s = record s { rules = s.rules ++ rule ∷ [] }
 
--- what a creation changes: the rule takes effect with the next id, unless there is a fault
-abbrev pub created : State → RuleSpec → Option Fault → Option Change
-created s spec (Some fault) = None
-created s spec None = Some (changes.Added (rule_of s.ids spec))
+-- one more id is given
+abbrev pub id_taken : State → State
+id_taken s = record s { ids = s.ids + 1 }
 
-abbrev pub destroyed : ℕ → Bool → Option Change
-destroyed id true = Some (changes.Removed id)
-destroyed id false = None
+-- what each call does where it is accepted
+abbrev pub created : RuleView → State → State
+created rule s = id_taken (took_effect (record { rule = rule; table = None }) s)
 
--- what a call changes for packets
-abbrev pub change_by : Limits → State → Op → Option Change
-change_by limits s (ops.Validate spec) = None
-change_by limits s (ops.Create spec) = created s spec (create_fault limits s spec)
-change_by limits s (ops.Destroy id) = destroyed id (is_in_effect id s)
-change_by limits s ops.Flush = Some changes.Flushed
-change_by limits s ops.List = None
-change_by limits s (ops.Isolate on) = Some (changes.Isolated on)
-change_by limits s (ops.Start _) = None
-change_by limits s ops.Stop = None
-change_by limits s ops.Quit = None
-change_by limits s (ops.Bad _) = None
+abbrev pub destroyed : ℕ → State → State
+destroyed id s = record s { rules = filter (λ r. not (has_id id r.rule)) s.rules }
 
--- each rule that takes effect takes an id
-abbrev pub ids_behind : ℕ → Change → ℕ
-ids_behind ids (changes.Added rule) = ids + 1
-ids_behind ids (changes.Removed id) = ids
-ids_behind ids changes.Flushed = ids
-ids_behind ids (changes.Isolated on) = ids
+abbrev pub flushed : State → State
+flushed s = record s { rules = [] }
 
--- the state behind a change, if there is one
-abbrev pub state_with : State → Option Change → State
-state_with s None = s
-state_with s (Some change) = record { flows = changed s.flows change; ids = ids_behind s.ids change }
+abbrev pub isolated : Bool → State → State
+isolated on s = record s { isolated = on }
+
+-- a call that has a fault leaves the state
+abbrev pub unless_refused : Option Fault → State → State → State
+unless_refused None done s = done
+unless_refused (Some fault) done s = s
 
 -- the state behind a call
-abbrev pub state_after : Limits → State → Op → State
-state_after limits s op = state_with s (change_by limits s op)
+abbrev pub next_state : Limits → State → Op → State
+next_state limits s (ops.Validate spec) = s
+next_state limits s (ops.Create spec) = unless_refused (create_fault limits s spec) (created (rule_of s.ids spec) s) s
+next_state limits s (ops.Destroy id) = if is_in_effect id s then destroyed id s else s
+next_state limits s ops.Flush = flushed s
+next_state limits s ops.List = s
+next_state limits s (ops.Isolate on) = isolated on s
+next_state limits s (ops.Start _) = s
+next_state limits s ops.Stop = s
+next_state limits s ops.Quit = s
+next_state limits s (ops.Bad _) = s
 
 -- the state behind an entry
 abbrev pub state_behind : Limits → State → Entry → State
-state_behind limits s (Asked caller call reply) = state_after limits s call.op
+state_behind limits s (Asked caller call reply) = next_state limits s call.op
 state_behind limits s (Passed caller parcel verdict) = s
 
 -- the state behind a history
-abbrev pub state_of : Limits → List Entry → State
+unfoldable pub state_of : Limits → List Entry → State
 state_of limits history = fold (state_behind limits) opening history

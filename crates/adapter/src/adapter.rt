@@ -8,13 +8,13 @@ use crate::caller::Caller;
 use crate::count::count;
 use crate::entry::EntryView;
 use crate::history::History;
-use crate::outcome::{Outcome, carry_out, judge};
+use crate::outcome::{Outcome, judge};
 use crate::parcel::Parcel;
 use crate::reply::{Reply, Totals};
 use crate::standing::Standing;
-use crate::walk::walk;
+use crate::state::State;
 use flow_actions::Verdict;
-use flow_rules::{Limits, Rule};
+use flow_rules::{Limits, classify};
 use packet_headers::Key;
 use std::alloc::{AllocError, Global};
 use std::marker::Model;
@@ -30,13 +30,8 @@ const MAX_ENTRIES: usize = 4_294_967_296;
 pub struct Adapter {
     limits: Limits,
     alloc: Global,
-    /// The rules in effect, in the order in which they took effect.
-    rules: Vec<Rule>,
-    /// Whether a frame that no rule takes is dropped.
-    isolated: bool,
-    /// How many rule ids were given.
-    ids: u32,
-    totals: Totals,
+    /// What calls and frames are judged by.
+    standing: Standing,
     history: History,
 }
 
@@ -53,7 +48,7 @@ impl Model for Adapter {
 }
 
 impl Adapter {
-    ghost use Rattle.adapter.specs.State.{state_of};
+    ghost use Rattle.adapter.specs.State.{flows_of, state_of};
     ghost use Rattle.adapter.specs.Totals.{totals_of};
     ghost use Rattle.adapter.specs.Reply.{reply_to};
     ghost use Rattle.adapter.specs.History.{IsLegal};
@@ -68,13 +63,13 @@ impl Adapter {
         Ok(Adapter {
             limits,
             alloc,
-            rules: Vec::new(alloc),
-            isolated: false,
-            ids: 0,
-            totals: Totals {
-                received: 0,
-                dropped: 0,
-                queues: [0; 16],
+            standing: Standing {
+                state: State::new(alloc),
+                totals: Totals {
+                    received: 0,
+                    dropped: 0,
+                    queues: [0; 16],
+                },
             },
             history: History::new(alloc),
         })
@@ -92,18 +87,11 @@ impl Adapter {
         if self.history.len() >= MAX_ENTRIES {
             return Err(AllocError);
         }
-        self.rules.reserve(1)?;
-        let standing = Standing {
-            limits: &self.limits,
-            rules: self.rules.as_slice(),
-            isolated: self.isolated,
-            ids: self.ids,
-            totals: &self.totals,
-        };
-        let Outcome { reply, change } = judge(self.alloc, &standing, &call.op)?;
+        self.standing.state.reserve()?;
+        let Outcome { reply, effect } = judge(self.alloc, &self.limits, &self.standing, &call.op)?;
         let kept = reply.clone()?;
         self.history.add_call(caller, call, kept)?;
-        carry_out(change, &mut self.rules, &mut self.isolated, &mut self.ids);
+        self.standing.state.carry_out(effect);
         Ok(reply)
     }
 
@@ -117,7 +105,7 @@ impl Adapter {
         verdict: &Verdict,
     ) -> Result<(), AllocError>
         requires worker { (9 ≤ caller.0) × (caller.0 ≤ 24) }
-        requires verdict { verdict.now ≡ verdict_of (state_of self.old.limits self.old.history).flows parcel.now.key }
+        requires verdict { verdict.now ≡ verdict_of (flows_of (state_of self.old.limits self.old.history)) parcel.now.key }
         ensures entered { OnOk result (Enters self.old self.new (Passed caller parcel.now verdict.now)) }
         ensures err { OnErr result (Stays self.old self.new) }
     {
@@ -125,15 +113,15 @@ impl Adapter {
             return Err(AllocError);
         }
         self.history.add_frame(caller, parcel, verdict)?;
-        count(&mut self.totals, verdict.fate);
+        count(&mut self.standing.totals, verdict.fate);
         Ok(())
     }
 
     /// The verdict on a frame of these layers by the rules in effect.
     pub fn verdict(&self, key: &Key) -> Verdict
-        ensures { result ≡ verdict_of (state_of self.now.limits self.now.history).flows key.now }
+        ensures { result ≡ verdict_of (flows_of (state_of self.now.limits self.now.history)) key.now }
     {
-        walk(self.rules.as_slice(), self.isolated, key)
+        classify(&self.standing.state, key)
     }
 
     /// The number of entries of the history.
@@ -157,7 +145,7 @@ impl Adapter {
     pub fn totals(&self) -> Totals
         ensures { result ≡ totals_of self.now.history }
     {
-        self.totals
+        self.standing.totals
     }
 
     /// The limits that the adapter was made with.

@@ -1,6 +1,7 @@
 //! The totals of frames, kept as they pass.
 ghost use Rattle.std.specs.Prelude.{◌≡◌, ◌<◌, ◌+◌, ◌^◌, length, slice_index};
-ghost use Rattle.adapter.specs.Counted.{counted, IsBelow, HasRoom};
+ghost use Rattle.adapter.specs.Counted.{counted, HasRoom};
+ghost use Rattle.flow_rules.specs.OnPort.{IsBelow};
 
 use crate::reply::Totals;
 use flow_actions::Fate;

@@ -16,12 +16,14 @@
 //! whoever stands above needs nothing else.
 //!
 //! Between calls the history only grows. A call that meets want of memory leaves the adapter as it was: `step` and
-//! `packet` take what they need before they change anything. A history has at most 2^32 entries; the call that would pass
+//! `packet` take what they need before they change anything: a call is judged first (its reply, and what it does), and
+//! carried out when its entry is in the history. A history has at most 2^32 entries; the call that would pass
 //! this answers want of memory.
 //!
-//! The definitions stand in `specs/`: `History` (what is legal), `State` (what calls do), `Reply` (what they
-//! answer), `Rows` (what a list of rules tells), `Totals`; what rules do to frames stands in `flow_rules`. A later command
-//! adds a case to `State` and `Reply`; nothing above these two words looks inside.
+//! The definitions stand in `specs/`: `History` (what is legal), `State` (what calls do), `Changes` (what packets see of
+//! that), `Standing` (what a reply depends on), `Reply` (what calls answer), `Rows` (what a list of rules tells), `Totals`;
+//! what rules do to frames stands in `flow_rules`. A later command adds a case to `State`, `Changes` and `Reply`; nothing
+//! above these words looks inside.
 //!
 //! Entries of frames are many, so what is kept of them is small (`kept`): `entry` makes the frame and its verdict anew. A
 //! call lies in a box of its own.
@@ -33,22 +35,28 @@ mod adapter;
 mod call;
 mod caller;
 mod count;
+mod effect;
 mod entry;
 mod held;
 mod history;
+mod in_effect;
 mod kept;
+mod laws;
+mod listing;
 mod outcome;
 mod parcel;
 mod reply;
 mod rows;
+mod scan;
 mod standing;
-mod walk;
+mod state;
 
 pub use adapter::Adapter;
 pub use call::{At, BadKind, Call, Op};
 pub use caller::Caller;
 pub use entry::{Entry, EntryView};
 pub use held::Held;
+pub use laws::changes_are_what_packets_see;
 pub use parcel::Parcel;
 pub use reply::{Reply, Totals};
 pub use rows::{ListRow, RuleList};

@@ -1,2 +1,3 @@
+pub mod FatesBelow
 pub mod Validity
 pub mod Visits

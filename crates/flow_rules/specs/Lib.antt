@@ -2,6 +2,7 @@ pub mod Best
 pub mod Changes
 pub mod ErrorTypes
 pub mod Faults
+pub mod OnPort
 pub mod RuleView
 pub mod Valid
 pub mod Walk

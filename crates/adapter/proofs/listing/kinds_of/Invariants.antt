@@ -1,6 +1,6 @@
 use Rattle.std.proofs.Common.{◌≡◌, ◌≤◌, ◌++◌, length, drop}
 use Rattle.adapter.specs.Rows.{action_kinds}
-use Rattle.adapter.proofs.outcome.kinds_of.Given as goal
+use Rattle.adapter.proofs.listing.kinds_of.Given as goal
 
 -- the kinds so far and those of the actions that are left
 abbrev pub invariant-loop-action : goal.invariant-loop-action

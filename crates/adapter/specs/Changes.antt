@@ -1,0 +1,32 @@
+-- What a call changes for packets.
+use Rattle.std.specs.Prelude.{◌≡◌, List, [], ◌∷◌, fold, Option, None, Some, if◌then◌else◌}
+use Rattle.flow_rules.specs.declared.limits.Limits.{Limits}
+use Rattle.flow_rules.specs.declared.fault.Fault.{Fault}
+use Rattle.flow_rules.specs.declared.change.Change.{Change}
+use Rattle.flow_rules.specs.declared.change.Change.TheVariants as changes
+use Rattle.flow_rules.specs.Faults.{rule_of}
+use Rattle.flow_rules.specs.Changes.{changed}
+use Rattle.adapter.specs.declared.call.Op.{Op}
+use Rattle.adapter.specs.declared.call.Op.TheVariants as ops
+use Rattle.adapter.specs.State.{State, flows_of, create_fault, is_in_effect, next_state}
+
+abbrev pub change_unless_refused : Option Fault → Change → List Change
+change_unless_refused None change = change ∷ []
+change_unless_refused (Some fault) change = []
+
+-- the changes that a call makes to what packets see, in order
+abbrev pub changes_by : Limits → State → Op → List Change
+changes_by limits s (ops.Validate spec) = []
+changes_by limits s (ops.Create spec) = change_unless_refused (create_fault limits s spec) (changes.Added (rule_of s.ids spec))
+changes_by limits s (ops.Destroy id) = if is_in_effect id s then changes.Removed id ∷ [] else []
+changes_by limits s ops.Flush = changes.Flushed ∷ []
+changes_by limits s ops.List = []
+changes_by limits s (ops.Isolate on) = changes.Isolated on ∷ []
+changes_by limits s (ops.Start _) = []
+changes_by limits s ops.Stop = []
+changes_by limits s ops.Quit = []
+changes_by limits s (ops.Bad _) = []
+
+-- what packets see behind a call is what they saw before it, with its changes
+abbrev pub AreItsChanges : Limits → State → Op → Type 0
+AreItsChanges limits s op = flows_of (next_state limits s op) ≡ fold changed (flows_of s) (changes_by limits s op)

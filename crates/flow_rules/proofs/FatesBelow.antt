@@ -1,0 +1,47 @@
+-- The queue of a verdict is one of the port's, where the queues of all rules are.
+use Rattle.std.proofs.Common.{ℕ, ◌≤◌, Bool, true, false, List, Option, None, Some}
+use Rattle.std.specs.List.{All}
+use Rattle.packet_headers.specs.declared.items.LayerAt.{LayerAt}
+use Rattle.flow_actions.specs.declared.action.Action.{Action}
+use Rattle.flow_actions.specs.declared.action.Action.TheVariants as actions
+use Rattle.flow_rules.specs.declared.walk.Course.{Course}
+use Rattle.flow_rules.specs.declared.walk.Course.TheVariants as courses
+use Rattle.flow_rules.specs.RuleView.{RuleView}
+use Rattle.flow_rules.specs.Valid.{IsOnPort}
+use Rattle.flow_rules.specs.Best.{best}
+use Rattle.flow_rules.specs.Walk.{Flows, Walked, start, performed, missed, visited, fate_of, walk, walked_by, verdict_of}
+use Rattle.flow_rules.proofs.Visits.{HoldsOf, HoldsOf-best, performed-keeps, visits-keep}
+use Rattle.flow_rules.specs.OnPort.{IsFor, IsBelow}
+
+-- a walk that has ended in a queue did so in one of the port's
+abbrev IsEndBelow : ℕ → Course → Type 0
+IsEndBelow n (courses.End fate) = IsBelow n fate
+IsEndBelow n (courses.Group group) = Unit {0}
+
+missed-below : (rxq : ℕ) → 1 ≤ rxq → (isolated : Bool) → IsBelow rxq (missed isolated)
+missed-below rxq one true = tt
+missed-below rxq one false = one
+
+performed-below : (rxq : ℕ) (flows : Flows) (rule : RuleView) (walked : Walked) (action : Action) → IsOnPort rxq action → IsEndBelow rxq walked.next
+    → IsEndBelow rxq (performed flows rule walked action).next
+performed-below rxq flows rule walked actions.Void there below = below
+performed-below rxq flows rule walked (actions.Queue queue) there below = there
+performed-below rxq flows rule walked actions.Drop there below = tt
+performed-below rxq flows rule walked (actions.Jump to) there below = tt
+
+visited-below : (rxq : ℕ) → 1 ≤ rxq → (flows : Flows) (walked : Walked) (rule : Option RuleView) → HoldsOf (IsFor rxq) rule → IsEndBelow rxq (visited flows walked rule).next
+visited-below rxq one flows walked None holds = missed-below rxq one flows.isolated
+visited-below rxq one flows walked (Some rule) holds =
+    performed-keeps (IsOnPort rxq) (λ w. IsEndBelow rxq w.next) flows rule (performed-below rxq flows rule) _ rule.actions holds one
+
+fate-below : (rxq : ℕ) → 1 ≤ rxq → (isolated : Bool) (next : Course) → IsEndBelow rxq next → IsBelow rxq (fate_of isolated next)
+fate-below rxq one isolated (courses.End fate) below = below
+fate-below rxq one isolated (courses.Group group) below = missed-below rxq one isolated
+
+pub verdict-below : (rxq : ℕ) → 1 ≤ rxq → (flows : Flows) (layers : List LayerAt) → All (IsFor rxq) flows.rules → IsBelow rxq (verdict_of flows layers).fate
+unfolding verdict_of walk
+verdict-below rxq one flows layers all =
+    fate-below rxq one flows.isolated (walked_by 16 flows (start layers)).next
+    (visits-keep (λ w. IsEndBelow rxq w.next) flows
+    (λ w group below. visited-below rxq one flows w (best flows.rules group w.layers) (HoldsOf-best (IsFor rxq) flows.rules group w.layers all))
+    16 (start layers) tt)
