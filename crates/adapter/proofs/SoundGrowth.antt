@@ -1,5 +1,5 @@
 -- An adapter stays sound behind one more entry.
-use Rattle.std.proofs.Common.{◌≡◌, ℕ, ◌<◌, ◌≤◌, ◌^◌, List, [], ◌∷◌, ◌++◌, length, fold, refl, sym, ap, ◌∙◌, append_assoc, append-nil, subst, arith, length-append}
+use Rattle.std.proofs.Common.{◌≡◌, ℕ, ◌<◌, ◌≤◌, ◌^◌, List, [], ◌∷◌, ◌++◌, length, refl, sym, ap, ◌∙◌, append_assoc, append-nil, subst, arith, length-append}
 use Rattle.std.proofs.lemmas.List.Sums.{fold-append}
 use Rattle.packet_headers.specs.declared.items.LayerAt.{LayerAt}
 use Rattle.flow_actions.specs.declared.verdict.Verdict.{Verdict}
@@ -16,13 +16,12 @@ use Rattle.adapter.specs.declared.entry.Entry.{Entry}
 use Rattle.adapter.specs.declared.entry.Entry.TheVariants.{Asked, Passed}
 use Rattle.adapter.specs.State.{State, state_of, state_behind, opening, flows_of, next_state}
 use Rattle.adapter.specs.Standing.{Standing, standing_of}
-use Rattle.adapter.specs.Totals.{totals_of}
 use Rattle.adapter.specs.Reply.{answer_of, reply_to}
 use Rattle.flow_rules.specs.OnPort.{IsBelow}
 use Rattle.adapter.specs.Counted.{counted, HasRoom}
 use Rattle.adapter.specs.History.{IsLegalBehind, IsRight}
 use Rattle.adapter.specs.Sound.{Sound, AreLimits}
-use Rattle.adapter.proofs.StateKept.{IsUnder, IsUnder-state_of, IsUnder-next}
+use Rattle.adapter.proofs.StateKept.{IsUnder, IsUnder-state_of}
 use Rattle.flow_rules.proofs.FatesBelow.{verdict-below}
 use Rattle.adapter.proofs.TotalsGrowth.{totals_of-asked, totals_of-passed, totals_of-room, totals_of-nil}
 

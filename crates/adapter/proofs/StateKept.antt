@@ -1,8 +1,7 @@
 -- What packets see behind each call, and what a state keeps under its limits.
-use Rattle.std.proofs.Common.{◌≡◌, ℕ, ◌-◌, ◌<◌, ◌≤◌, ◌^◌, Bool, true, false, cond, not, List, [], ◌∷◌, ◌++◌, map, filter, fold, refl, sym, ap, ◌∙◌, subst, arith, Option, None, Some, nat_le}
+use Rattle.std.proofs.Common.{◌≡◌, ℕ, ◌-◌, ◌<◌, ◌^◌, Bool, true, false, cond, not, List, [], ◌∷◌, map, filter, fold, refl, sym, ap, subst, arith, Option, None, Some, nat_le}
 use Rattle.std.specs.List.{All, count_by}
 use Rattle.std.proofs.lemmas.List.{map-append}
-use Rattle.std.proofs.lemmas.List.Sums.{count_by-le-length, sum_by-append}
 use Rattle.std.proofs.lemmas.List.Elements.{All-append, All-cons, All-nil, All-filter}
 use Rattle.std.proofs.lemmas.Bool.{leb-false}
 use Rattle.flow_rules.specs.declared.limits.Limits.{Limits}
@@ -21,7 +20,7 @@ use Rattle.adapter.specs.declared.entry.Entry.{Entry}
 use Rattle.adapter.specs.declared.entry.Entry.TheVariants.{Asked, Passed}
 use Rattle.adapter.specs.declared.in_effect.InEffect.{InEffect}
 use Rattle.adapter.specs.State.{State, state_of, state_behind, opening, flows_of, rule_in, kinds_in, created, destroyed, is_in_effect, create_fault, room_fault, first_of, plain, is_plain, unless_refused, next_state}
-use Rattle.adapter.specs.Changes.{change_unless_refused, changes_by, AreItsChanges}
+use Rattle.adapter.specs.Changes.{change_unless_refused, AreItsChanges}
 
 -- without a rule, by its own id or by that of what is in effect
 map-without : (id : ℕ) (rules : List InEffect) → map rule_in (filter (λ r. not (has_id id r.rule)) rules) ≡ filter (λ (rule : RuleView). not (has_id id rule)) (map rule_in rules)

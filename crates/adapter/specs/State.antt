@@ -1,5 +1,5 @@
 -- The state behind a history, and what each call does to it.
-use Rattle.std.specs.Prelude.{ℕ, ◌+◌, ◌-◌, ◌^◌, Bool, true, false, not, ◌&&◌, List, [], ◌∷◌, ◌++◌, map, filter, count_by, nat_le, if◌then◌else◌, Option, None, Some, fold}
+use Rattle.std.specs.Prelude.{ℕ, ◌+◌, ◌-◌, ◌^◌, Bool, false, not, ◌&&◌, List, [], ◌∷◌, ◌++◌, map, filter, count_by, nat_le, if◌then◌else◌, Option, None, Some, fold}
 use Rattle.std.specs.List.{list_any}
 use Rattle.std.specs.Option.{is_none}
 use Rattle.flow_rules.specs.declared.limits.Limits.{Limits}

@@ -1,5 +1,5 @@
 -- How the code keeps a state.
-use Rattle.std.specs.Prelude.{◌≡◌, ℕ, ◌-◌, count_by, vec_len, vec_capacity}
+use Rattle.std.specs.Prelude.{◌≡◌, ◌-◌, count_by, vec_len, vec_capacity}
 use Rattle.adapter.specs.declared.state.State.TheInside.{Inside}
 use Rattle.adapter.specs.State.{is_plain}
 use Rattle.adapter.specs.Room.{StateWithRoom}

@@ -1,5 +1,5 @@
 -- What visits of groups keep, and that the walk over valid rules has ended when 16 groups were visited.
-use Rattle.std.proofs.Common.{◌≡◌, ℕ, zero, suc, ◌+◌, ◌≤◌, Bool, true, false, ◌&&◌, cond, nat_lt, nat_eq, List, [], ◌∷◌, ◌++◌, fold, Option, None, Some, refl, sym, subst, arith}
+use Rattle.std.proofs.Common.{◌≡◌, ℕ, zero, suc, ◌+◌, ◌≤◌, true, nat_lt, nat_eq, List, [], ◌∷◌, fold, Option, None, Some, refl, sym, subst, arith}
 use Rattle.std.specs.List.{All}
 use Rattle.std.proofs.lemmas.List.Elements.{All-head, All-tail, All-filter, filter_passes}
 use Rattle.std.proofs.lemmas.Bool.{and_parts, eqb-true, cond_both}
@@ -12,7 +12,7 @@ use Rattle.flow_rules.specs.declared.walk.Course.TheVariants as courses
 use Rattle.flow_rules.specs.RuleView.{RuleView}
 use Rattle.flow_rules.specs.Valid.{IsGood, IsValidRule}
 use Rattle.flow_rules.specs.Best.{takes, better, first_lowest, best}
-use Rattle.flow_rules.specs.Walk.{Flows, Walked, performed, missed, visited, gone_on, walked_by}
+use Rattle.flow_rules.specs.Walk.{Flows, Walked, performed, visited, gone_on, walked_by}
 
 -- what holds of a rule, where there is one
 abbrev pub HoldsOf : (RuleView → Type 0) → Option RuleView → Type 0

@@ -1,4 +1,4 @@
-use Rattle.std.proofs.Common.{◌≡◌, ◌<◌, ◌^◌, length, sym, ap, ◌∙◌, subst, arith, List}
+use Rattle.std.proofs.Common.{◌<◌, ◌^◌, length, sym, ap, ◌∙◌, subst, arith, List}
 use Rattle.flow_rules.specs.Walk.{verdict_of}
 use Rattle.adapter.specs.declared.entry.Entry.{Entry}
 use Rattle.adapter.specs.Seen.{Seen}
