@@ -2,5 +2,9 @@ mod Weaving
 pub mod ReadBack
 pub mod KindLaws
 pub mod Parts
+pub mod Words
+pub mod RowLaws
 pub mod ReplyLaws
 pub mod VerdictLaws
+pub mod EndingLaws
+pub mod TranscriptLaws

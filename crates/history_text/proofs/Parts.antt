@@ -51,6 +51,6 @@ listed-same (n ∷ k ∷ ns) (m ∷ []) r s small small' stop stop' end end' e =
     absurd (end' (ap (λ t. get_or t 0 0) (sym rests)))
 listed-same (n ∷ k ∷ ns) (m ∷ l ∷ ms) r s small small' stop stop' end end' e =
     let (heads, rests) = decimal-same n m (44 ∷ (listed (k ∷ ns) ++ r)) (44 ∷ (listed (l ∷ ms) ++ s)) small.0 small'.0 (lit≤ tt) (lit≤ tt)
-        (sym (append_assoc (decimal n) (44 ∷ listed (k ∷ ns)) r) ∙ e ∙ append_assoc (decimal m) (44 ∷ listed (l ∷ ms)) s) in
+    (sym (append_assoc (decimal n) (44 ∷ listed (k ∷ ns)) r) ∙ e ∙ append_assoc (decimal m) (44 ∷ listed (l ∷ ms)) s) in
     let (tails, ends) = listed-same (k ∷ ns) (l ∷ ms) r s small.1 small'.1 stop stop' end end' (ap (drop 1) rests) in
     (ap (λ x. x ∷ k ∷ ns) heads ∙ ap (λ xs. m ∷ xs) tails, ends)

@@ -7,6 +7,9 @@ use Rattle.flow_rules.specs.declared.limits.Limits.{Limits}
 use Rattle.flow_rules.specs.declared.fault.Cause.{Cause}
 use Rattle.flow_rules.specs.declared.fault.Cause.TheVariants as causes
 use Rattle.adapter.specs.declared.call.BadKind.TheVariants as bads
+use Rattle.std.specs.List.{flat_map}
+use Rattle.adapter.specs.declared.rows.ListRow.{ListRow}
+use Rattle.history_text.specs.Rows.{row_text}
 use Rattle.adapter.specs.declared.reply.Totals.{Totals}
 use Rattle.adapter.specs.declared.reply.Reply.{Reply}
 use Rattle.adapter.specs.declared.reply.Reply.TheVariants as replies
@@ -21,8 +24,9 @@ use Rattle.history_text.specs.KindRows.{kind_rows}
 use Rattle.history_text.specs.Reading.{Fills, Ends, front_by}
 use Rattle.history_text.specs.Replies.{behind_text, reply_text}
 use Rattle.history_text.specs.Totals.{totals_text}
-use Rattle.history_text.specs.Told.{PlaceIsTold, TotalsAreTold, ReplyIsTold}
+use Rattle.history_text.specs.Told.{PlaceIsTold, TotalsAreTold, RowsAreTold, ReplyIsTold}
 use Rattle.history_text.proofs.KindLaws.{kind-back}
+use Rattle.history_text.proofs.RowLaws.{rows-same}
 use Rattle.history_text.proofs.Parts.{filled-same, listed, listed-same}
 
 -- each text of a reply ends in no number
@@ -123,51 +127,62 @@ totals-same limits t u r s told told' stop stop' end end' e =
     let mine = listed (take limits.rxq t.queues) in
     let yours = listed (take limits.rxq u.queues) in
     let (counts, lists) = filled-same front (t.received ∷ t.dropped ∷ []) (u.received ∷ u.dropped ∷ []) (mine ++ r) (yours ++ s) refl
-        (told.received, (told.dropped, tt)) (told'.received, (told'.dropped, tt)) tt tt
-        (sym (append_assoc (filled front (t.received ∷ t.dropped ∷ [])) mine r) ∙ e ∙ append_assoc (filled front (u.received ∷ u.dropped ∷ [])) yours s) in
+    (told.received, (told.dropped, tt)) (told'.received, (told'.dropped, tt)) tt tt
+    (sym (append_assoc (filled front (t.received ∷ t.dropped ∷ [])) mine r) ∙ e ∙ append_assoc (filled front (u.received ∷ u.dropped ∷ [])) yours s) in
     let (queues, rests) = listed-same (take limits.rxq t.queues) (take limits.rxq u.queues) r s told.queues told'.queues stop stop' end end' lists in
     let all : t.queues ≡ u.queues = sym (take-append-drop limits.rxq t.queues) ∙ ap (λ l. l ++ drop limits.rxq t.queues) queues
-        ∙ ap (λ l. take limits.rxq u.queues ++ l) (told.others ∙ sym told'.others) ∙ take-append-drop limits.rxq u.queues in
+    ∙ ap (λ l. take limits.rxq u.queues ++ l) (told.others ∙ sym told'.others) ∙ take-append-drop limits.rxq u.queues in
     (totals-is t u (ap first counts) (ap (λ l. first (rest l)) counts) all, rests)
 
 abbrev IsStopped : Kind → Type 0
 IsStopped kinds.Stopped = Unit
 IsStopped kind = ⊥
 
-stopped-same : (limits : Limits) (t : Totals) (other : Reply) (r s : List ℕ) → TotalsAreTold limits t → ReplyIsTold limits other → NoDigit 10 r → NoDigit 10 s → get_or r 0 0 ≢ 44 → get_or s 0 0 ≢ 44
-    → kinds.Stopped ≡ (spell other).kind → totals_text limits t ++ r ≡ behind_text limits other ++ s → (replies.Stopped t ≡ other) × (r ≡ s)
-stopped-same limits t (replies.Stopped u) r s told told' stop stop' end end' kind e =
-    let (same, rests) = totals-same limits t u r s told told' stop stop' end end' e in
-    (ap replies.Stopped same, rests)
-stopped-same limits t other r s told told' stop stop' end end' kind e = absurd (subst IsStopped kind tt)
+stopped-same : (limits : Limits) (t : Totals) (other : Reply) (r s : List ℕ) → TotalsAreTold limits t → ReplyIsTold limits other
+    → kinds.Stopped ≡ (spell other).kind → totals_text limits t ++ 10 ∷ r ≡ behind_text limits other ++ 10 ∷ s → (replies.Stopped t ≡ other) × (r ≡ s)
+stopped-same limits t (replies.Stopped u) r s told told' kind e =
+    let (same, rests) = totals-same limits t u (10 ∷ r) (10 ∷ s) told told' (lit≤ tt) (lit≤ tt) (λ is. omega (arith, is)) (λ is. omega (arith, is)) e in
+    (ap replies.Stopped same, ap (drop 1) rests)
+stopped-same limits t other r s told told' kind e = absurd (subst IsStopped kind tt)
+
+abbrev IsListed : Kind → Type 0
+IsListed kinds.Listed = Unit
+IsListed kind = ⊥
+
+listed-rows-same : (limits : Limits) (rows : List ListRow) (other : Reply) (r s : List ℕ) → RowsAreTold rows → ReplyIsTold limits other → NoDigit 10 r → NoDigit 10 s
+    → kinds.Listed ≡ (spell other).kind → flat_map row_text rows ++ 10 ∷ r ≡ behind_text limits other ++ 10 ∷ s → (replies.Listed rows ≡ other) × (r ≡ s)
+listed-rows-same limits rows (replies.Listed others) r s told told' stop stop' kind e =
+    let (same, rests) = rows-same rows others r s told told' stop stop' e in
+    (ap replies.Listed same, rests)
+listed-rows-same limits rows other r s told told' stop stop' kind e = absurd (subst IsListed kind tt)
 
 plain-same : (limits : Limits) (a b : Reply) (r s : List ℕ) → ReplyIsTold limits a → ReplyIsTold limits b → IsPlain (spell a).kind
     → (spell a).kind ≡ (spell b).kind → (spell a).numbers ≡ (spell b).numbers → behind_text limits a ++ r ≡ behind_text limits b ++ s → (a ≡ b) × (r ≡ s)
 plain-same limits a b r s told told' plain kind numbers e =
     let plain' = subst IsPlain kind plain in
     let same = sym (unspelled-back limits a told plain) ∙ ap (λ k. unspelled k (spell a).numbers) kind ∙ ap (unspelled (spell b).kind) numbers
-        ∙ unspelled-back limits b told' plain' in
+    ∙ unspelled-back limits b told' plain' in
     (same_Some _ _ same, sym (ap (λ l. l ++ r) (plain-behind limits a plain)) ∙ e ∙ ap (λ l. l ++ s) (plain-behind limits b plain'))
 
-behind-same : (limits : Limits) (a b : Reply) (r s : List ℕ) → ReplyIsTold limits a → ReplyIsTold limits b → NoDigit 10 r → NoDigit 10 s → get_or r 0 0 ≢ 44 → get_or s 0 0 ≢ 44
-    → (spell a).kind ≡ (spell b).kind → (spell a).numbers ≡ (spell b).numbers → behind_text limits a ++ r ≡ behind_text limits b ++ s → (a ≡ b) × (r ≡ s)
-behind-same limits (replies.Listed rows) b r s told told' stop stop' end end' kind numbers e = absurd told
-behind-same limits (replies.Stopped totals) b r s told told' stop stop' end end' kind numbers e =
-    stopped-same limits totals b r s told told' stop stop' end end' kind e
-behind-same limits a b r s told told' stop stop' end end' kind numbers e = plain-same limits a b r s told told' tt kind numbers e
+behind-same : (limits : Limits) (a b : Reply) (r s : List ℕ) → ReplyIsTold limits a → ReplyIsTold limits b → NoDigit 10 r → NoDigit 10 s
+    → (spell a).kind ≡ (spell b).kind → (spell a).numbers ≡ (spell b).numbers → behind_text limits a ++ 10 ∷ r ≡ behind_text limits b ++ 10 ∷ s → (a ≡ b) × (r ≡ s)
+behind-same limits (replies.Listed rows) b r s told told' stop stop' kind numbers e = listed-rows-same limits rows b r s told told' stop stop' kind e
+behind-same limits (replies.Stopped totals) b r s told told' stop stop' kind numbers e = stopped-same limits totals b r s told told' kind e
+behind-same limits a b r s told told' stop stop' kind numbers e =
+    let (same, rests) = plain-same limits a b (10 ∷ r) (10 ∷ s) told told' tt kind numbers e in
+    (same, ap (drop 1) rests)
 
--- replies whose texts begin one text are one reply, and what stands behind is one text
-pub reply-same : (limits : Limits) (a b : Reply) (r s : List ℕ) → ReplyIsTold limits a → ReplyIsTold limits b → NoDigit 10 r → NoDigit 10 s → get_or r 0 0 ≢ 44 → get_or s 0 0 ≢ 44
-    → reply_text limits a ++ r ≡ reply_text limits b ++ s → (a ≡ b) × (r ≡ s)
-reply-same limits a b r s told told' stop stop' end end' e =
+-- replies whose texts begin one text, each to the end of its line, are one reply, and what stands behind is one text
+pub reply-same : (limits : Limits) (a b : Reply) (r s : List ℕ) → ReplyIsTold limits a → ReplyIsTold limits b → NoDigit 10 r → NoDigit 10 s
+    → reply_text limits a ++ 10 ∷ r ≡ reply_text limits b ++ 10 ∷ s → (a ≡ b) × (r ≡ s)
+reply-same limits a b r s told told' stop stop' e =
     let mine = filled (kind_form (spell a).kind) (spell a).numbers in
     let yours = filled (kind_form (spell b).kind) (spell b).numbers in
-    let text = sym (append_assoc mine (behind_text limits a) r) ∙ e ∙ append_assoc yours (behind_text limits b) s in
-    let (kind, rests) = same_parts ((spell a).kind, (spell a).numbers) ((spell b).kind, (spell b).numbers) (behind_text limits a ++ r) (behind_text limits b ++ s)
-        (sym (kind-back (spell a).kind (spell a).numbers _ (fills limits a told) (ends (spell a).kind _)) ∙ ap (front_by kind_rows) text
-        ∙ kind-back (spell b).kind (spell b).numbers _ (fills limits b told') (ends (spell b).kind _)) in
-    behind-same limits a b r s told told' stop stop' end end' (ap (λ p. p.0) kind) (ap (λ p. p.1) kind) rests
+    let text = sym (append_assoc mine (behind_text limits a) (10 ∷ r)) ∙ e ∙ append_assoc yours (behind_text limits b) (10 ∷ s) in
+    let (kind, rests) = same_parts ((spell a).kind, (spell a).numbers) ((spell b).kind, (spell b).numbers) (behind_text limits a ++ 10 ∷ r) (behind_text limits b ++ 10 ∷ s)
+    (sym (kind-back (spell a).kind (spell a).numbers _ (fills limits a told) (ends (spell a).kind _)) ∙ ap (front_by kind_rows) text
+    ∙ kind-back (spell b).kind (spell b).numbers _ (fills limits b told') (ends (spell b).kind _)) in
+    behind-same limits a b r s told told' stop stop' (ap (λ p. p.0) kind) (ap (λ p. p.1) kind) rests
 
 pub reply-text-same : (limits : Limits) (a b : Reply) → ReplyIsTold limits a → ReplyIsTold limits b → reply_text limits a ≡ reply_text limits b → a ≡ b
-reply-text-same limits a b told told' e =
-    (reply-same limits a b (10 ∷ []) (10 ∷ []) told told' (lit≤ tt) (lit≤ tt) (λ is. omega (arith, is)) (λ is. omega (arith, is)) (ap (λ t. t ++ 10 ∷ []) e)).0
+reply-text-same limits a b told told' e = (reply-same limits a b [] [] told told' (lit≤ tt) (lit≤ tt) (ap (λ t. t ++ 10 ∷ []) e)).0

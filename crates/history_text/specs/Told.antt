@@ -5,11 +5,17 @@ use Rattle.flow_actions.specs.declared.verdict.Fate.{Fate}
 use Rattle.flow_actions.specs.declared.verdict.Fate.TheVariants as fates
 use Rattle.flow_actions.specs.declared.verdict.Verdict.{Verdict}
 use Rattle.flow_rules.specs.declared.limits.Limits.{Limits}
+use Rattle.adapter.specs.declared.rows.ListRow.{ListRow}
 use Rattle.adapter.specs.declared.reply.Totals.{Totals}
 use Rattle.adapter.specs.declared.reply.Reply.{Reply}
 use Rattle.adapter.specs.declared.reply.Reply.TheVariants as replies
 use Rattle.history_text.specs.declared.cause.Place.{Place}
 use Rattle.history_text.specs.declared.cause.Place.TheVariants as places
+use Rattle.adapter.specs.declared.entry.Entry.{Entry}
+use Rattle.adapter.specs.declared.entry.Entry.TheVariants.{Asked, Passed}
+use Rattle.adapter.specs.Totals.{totals_of}
+use Rattle.history_text.specs.declared.ending.Ending.{Ending}
+use Rattle.history_text.specs.declared.ending.Ending.TheVariants as endings
 use Rattle.history_text.specs.Causes.{told_of}
 
 abbrev pub AllU64 : List ℕ → Type 0
@@ -29,11 +35,19 @@ pub record TotalsAreTold (limits : Limits) (totals : Totals) : Type 0 where
   pub queues : AllU64 (take limits.rxq totals.queues)
   pub others : drop limits.rxq totals.queues ≡ drop limits.rxq (repeat 16 (0 ∷ []))
 
--- so far without the rows of a list
+pub record RowIsTold (row : ListRow) : Type 0 where
+  pub id : row.id < 2 ^ 64
+  pub group : row.group < 2 ^ 64
+  pub priority : row.priority < 2 ^ 64
+
+abbrev pub RowsAreTold : List ListRow → Type 0
+RowsAreTold [] = Unit
+RowsAreTold (row ∷ rows) = RowIsTold row × RowsAreTold rows
+
 abbrev pub ReplyIsTold : Limits → Reply → Type 0
 ReplyIsTold limits (replies.Created id) = id < 2 ^ 64
 ReplyIsTold limits (replies.Destroyed id) = id < 2 ^ 64
-ReplyIsTold limits (replies.Listed rows) = ⊥
+ReplyIsTold limits (replies.Listed rows) = RowsAreTold rows
 ReplyIsTold limits (replies.Stopped totals) = TotalsAreTold limits totals
 ReplyIsTold limits (replies.Fault fault) = PlaceIsTold (told_of fault.cause).place fault.at
 ReplyIsTold limits reply = Unit
@@ -56,3 +70,33 @@ pub record VerdictIsTold (verdict : Verdict) : Type 0 where
   pub mark : MarkIsTold verdict.mark
   pub hash : HashIsTold verdict.hash
   pub path : AllU64 verdict.path.items
+
+-- of a call its place, and of a frame its number
+abbrev pub EntryIsTold : Limits → Entry → Type 0
+EntryIsTold limits (Asked caller call reply) = (caller.0 < 2 ^ 64) × (call.at.line < 2 ^ 64) × (call.at.part < 2 ^ 64) × ReplyIsTold limits reply
+EntryIsTold limits (Passed caller parcel verdict) = (caller.0 < 2 ^ 64) × (parcel.number < 2 ^ 64) × VerdictIsTold verdict
+
+abbrev pub EntriesAreTold : Limits → List Entry → Type 0
+EntriesAreTold limits [] = Unit
+EntriesAreTold limits (entry ∷ entries) = EntryIsTold limits entry × EntriesAreTold limits entries
+
+pub record HistoryIsTold (limits : Limits) (history : List Entry) : Type 0 where
+  pub entries : EntriesAreTold limits history
+  pub totals : TotalsAreTold limits (totals_of history)
+
+abbrev pub EndingIsTold : Ending → Type 0
+EndingIsTold (endings.Bad place kind) = place < 2 ^ 64
+EndingIsTold (endings.Large place) = place < 2 ^ 64
+EndingIsTold ending = Unit
+
+-- two entries of which the same is told: caller, place and reply, or caller, number and verdict
+abbrev pub AreOneTold : Entry → Entry → Type 0
+AreOneTold (Asked caller call reply) (Asked caller' call' reply') = (caller.0 ≡ caller'.0) × (call.at ≡ call'.at) × (reply ≡ reply')
+AreOneTold (Passed caller parcel verdict) (Passed caller' parcel' verdict') = (caller.0 ≡ caller'.0) × (parcel.number ≡ parcel'.number) × (verdict ≡ verdict')
+AreOneTold entry entry' = ⊥
+
+-- as many entries, each with the one at its place
+abbrev pub AreAllTold : List Entry → List Entry → Type 0
+AreAllTold [] [] = Unit
+AreAllTold (entry ∷ entries) (entry' ∷ entries') = AreOneTold entry entry' × AreAllTold entries entries'
+AreAllTold entries entries' = ⊥

@@ -44,5 +44,8 @@ mod transcript;
 mod verdict;
 
 pub use ending::Ending;
-pub use read_back::{kinds_are_read_back, replies_are_told_apart, verdicts_are_told_apart};
+pub use read_back::{
+    kinds_are_read_back, replies_are_told_apart, transcripts_are_told_apart,
+    verdicts_are_told_apart,
+};
 pub use transcript::print_history;
