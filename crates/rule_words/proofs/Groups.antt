@@ -9,7 +9,7 @@ use Rattle.rule_words.specs.declared.address.Address.{Address}
 use Rattle.rule_words.specs.declared.address.Address.TheVariants as address
 use Rattle.rule_words.specs.declared.address.Groups.{Groups}
 use Rattle.rule_words.specs.Number.{number_from}
-use Rattle.rule_words.specs.Address.{factor_of, most_groups, number_of_groups, groups_read}
+use Rattle.rule_words.specs.Address.{width_of, factor_of, most_groups, number_of_groups, groups_read}
 
 -- the place at i goes into the number
 pub number_from-some : {X : Type 0} (value_at : X → Option ℕ) (base n i value : ℕ) (places : List X) (d : X) → i < length places
@@ -52,3 +52,9 @@ pub factor-some : (a : Address) → 0 < factor_of a
 factor-some address.Mac = lit< tt
 factor-some address.Ip4 = lit< tt
 factor-some address.Ip6 = lit< tt
+
+-- a whole address has the bits of its width
+pub power-is : (a : Address) → factor_of a ^ most_groups a ≡ 2 ^ width_of a
+power-is address.Mac = refl
+power-is address.Ip4 = refl
+power-is address.Ip6 = refl

@@ -4,4 +4,10 @@ pub mod Sides
 pub mod Groups
 pub mod Filled
 pub mod FieldTable
+pub mod TurnSteps
+pub mod IdSteps
+pub mod TurnsWritten
 pub mod WrittenItems
+pub mod WrittenActions
+pub mod WrittenAttributes
+pub mod WrittenIds

@@ -26,6 +26,12 @@ factor_of address.Mac = 256
 factor_of address.Ip4 = 256
 factor_of address.Ip6 = 65536
 
+-- how many bits an address has
+abbrev pub width_of : Address → ℕ
+width_of address.Mac = 48
+width_of address.Ip4 = 32
+width_of address.Ip6 = 128
+
 -- one to so many hexadecimal digits
 abbrev pub hexadecimal : ℕ → List ℕ → Option ℕ
 hexadecimal most text = if nat_le (length text) most then number_in 16 text else None

@@ -6,11 +6,10 @@ use Rattle.packet_headers.specs.Fields.{FieldOf, fields_of}
 use Rattle.rule_words.specs.declared.address.Address.TheVariants as address
 use Rattle.rule_words.specs.declared.field_words.Spot.{Spot}
 use Rattle.rule_words.specs.declared.field_words.Spot.TheVariants as spots
-use Rattle.rule_words.specs.declared.field_words.Form.{Form}
-use Rattle.rule_words.specs.declared.field_words.Form.TheVariants as forms
 use Rattle.rule_words.specs.declared.field_words.Named.{Named}
-use Rattle.rule_words.specs.Number.{number_of_bits}
-use Rattle.rule_words.specs.Address.{address_of}
+use Rattle.rule_words.specs.declared.value.Form.{Form}
+use Rattle.rule_words.specs.declared.value.Form.TheVariants as forms
+use Rattle.rule_words.specs.Value.{width_of}
 
 -- how the value of a field is written: the fields of 48 bits are MAC addresses, those of 32 bits IPv4 addresses, those of
 -- 128 bits IPv6 addresses, and every other is a number
@@ -18,7 +17,7 @@ abbrev pub form_of : ℕ → Form
 form_of bits =
     if bits == 48 then forms.Address address.Mac
     else if bits == 32 then forms.Address address.Ip4
-    else if bits == 128 then forms.Address address.Ip6 else forms.Number
+    else if bits == 128 then forms.Address address.Ip6 else forms.Number bits
 
 -- the first of these fields with this word, where places count from one on
 abbrev pub named_from : ℕ → List FieldOf → List ℕ → Option Named
@@ -36,16 +35,8 @@ is_tci _ word = false
 -- tag's control information
 abbrev pub named_by : ItemKind → List ℕ → Option Named
 named_by k word =
-    if is_tci k word then Some (record { spot = spots.Tci; bits = 16; form = forms.Number })
+    if is_tci k word then Some (record { spot = spots.Tci; bits = 16; form = forms.Number 16 })
     else named_from 0 (fields_of k) word
-
--- the value that a word is: a number of the field's width, or an address
-abbrev pub value_in_form : Form → ℕ → List ℕ → Option ℕ
-value_in_form forms.Number bits word = number_of_bits bits word
-value_in_form (forms.Address a) bits word = address_of a word
-
-abbrev pub value_of : Named → List ℕ → Option ℕ
-value_of named word = value_in_form named.form named.bits word
 
 -- it stands among the six numbers of an item
 abbrev pub IsPlace : Spot → Type 0
@@ -53,4 +44,4 @@ IsPlace (spots.Field place) = place < 6
 IsPlace spots.Tci = Unit {0}
 
 abbrev pub IsInItem : Named → Type 0
-IsInItem named = IsPlace named.spot × (named.bits ≤ 128)
+IsInItem named = IsPlace named.spot × (named.bits ≤ 128) × (width_of named.form ≤ 128)

@@ -1,15 +1,14 @@
 -- The items of a pattern: `{ ITEM "/" } "end"`, where an item is `void`, or a kind with any number of fields, each with a
 -- relation and a value.
-use Rattle.std.specs.Prelude.{ℕ, ◌+◌, ◌-◌, ◌^◌, min, nat_lt, Bool, false, List, [], ◌∷◌, ◌++◌, length, codes, bytes_eq, Option, None, Some, option_and_then, option_map, if◌then◌else◌}
+use Rattle.std.specs.Prelude.{ℕ, ◌+◌, ◌-◌, ◌^◌, min, nat_lt, List, [], ◌∷◌, ◌++◌, length, codes, Option, None, option_map, if◌then◌else◌}
 use Rattle.packet_headers.specs.declared.items.ItemKind.{ItemKind}
 use Rattle.packet_headers.specs.declared.items.ItemKind.TheVariants as kind
 use Rattle.pattern_items.specs.declared.pattern.Item.{Item}
 use Rattle.pattern_items.specs.declared.pattern.Pattern.{Pattern}
-use Rattle.rule_words.specs.declared.items.Open.{Open}
-use Rattle.rule_words.specs.declared.items.Open.TheVariants as opens
 use Rattle.rule_words.specs.Vocabulary.{meaning_of}
-use Rattle.rule_words.specs.FieldWords.{named_by, IsInItem}
+use Rattle.rule_words.specs.FieldWords.{named_by}
 use Rattle.rule_words.specs.Relations.{relations, related}
+use Rattle.rule_words.specs.Turns.{◌>>=◌, up_to}
 
 abbrev pub kinds : List (List ℕ × ItemKind)
 kinds =
@@ -37,38 +36,24 @@ with_item pattern item =
     then record pattern { items = record { items = pattern.items.items ++ item ∷ [] } }
     else record pattern { more = min (pattern.more + 1) (2 ^ 16 - 1) }
 
--- What is open behind a word, and the items so far: an item begins with its kind and ends with `/`, and between them stand
--- fields, each with a relation and a value.
-abbrev pub next : Pattern → Open → List ℕ → Option (Pattern × Open)
-next so_far opens.BetweenItems word = option_map (λ k. (so_far, opens.InItem (item_of k))) (meaning_of kinds word)
-next so_far (opens.InItem item) word =
-    if bytes_eq word (codes "/") then Some (with_item so_far item, opens.BetweenItems)
-    else option_map (λ named. (so_far, opens.AtField item named)) (named_by item.kind word)
-next so_far (opens.AtField item named) word =
-    option_map (λ relation. (so_far, opens.AtRelation item named relation)) (meaning_of relations word)
-next so_far (opens.AtRelation item named relation) word =
-    option_map (λ after. (so_far, opens.InItem after)) (related item named relation word)
+-- what a field says with a relation and a value
+abbrev pub with_field : Item → List ℕ → List ℕ → List ℕ → Option Item
+with_field item word relation value =
+    named_by item.kind word >>= λ named. meaning_of relations relation >>= λ how. related item named how value
 
--- the field that was named is one of the field table
-abbrev pub IsInTable : Open → Type 0
-IsInTable opens.BetweenItems = Unit {0}
-IsInTable (opens.InItem item) = Unit {0}
-IsInTable (opens.AtField item named) = IsInItem named
-IsInTable (opens.AtRelation item named relation) = IsInItem named
+-- FIELD REL VALUE: what the first words inside an item say
+abbrev pub field : Item → List (List ℕ) → Option (Item × List (List ℕ))
+field item [] = None
+field item (word ∷ []) = None
+field item (word ∷ relation ∷ []) = None
+field item (word ∷ relation ∷ value ∷ rest) = option_map (λ after. (after, rest)) (with_field item word relation value)
 
--- `end`, where no item is open
-abbrev pub is_end : Open → List ℕ → Bool
-is_end opens.BetweenItems word = bytes_eq word (codes "end")
-is_end _ word = false
+-- ITEM "/"
+abbrev pub item_behind : Pattern → List (List ℕ) → Option (Pattern × List (List ℕ))
+item_behind so_far [] = None
+item_behind so_far (word ∷ rest) =
+    meaning_of kinds word >>= λ k. option_map (λ read. (with_item so_far read.0, read.1)) (up_to (codes "/") field (item_of k) rest)
 
--- the pattern that words make up to `end`, and the words behind it; before the words stand the items so far, and what is
--- open
-abbrev pub items_from : Pattern → Open → List (List ℕ) → Option (Pattern × List (List ℕ))
-items_from so_far part [] = None
-items_from so_far part (word ∷ words) =
-    if is_end part word then Some (so_far, words)
-    else option_and_then (λ read. items_from read.0 read.1 words) (next so_far part word)
-
--- the pattern that words make from their first on, and the words behind its `end`
+-- the pattern that words make up to `end`, and the words behind it
 abbrev pub items_of : List (List ℕ) → Option (Pattern × List (List ℕ))
-items_of words = items_from no_items opens.BetweenItems words
+items_of words = up_to (codes "end") item_behind no_items words

@@ -3,8 +3,11 @@ pub mod Address
 pub mod Attributes
 pub mod FieldWords
 pub mod Flags
+pub mod Ids
 pub mod Items
 pub mod Number
 pub mod Relations
+pub mod Turns
+pub mod Value
 pub mod Vocabulary
 pub mod Written

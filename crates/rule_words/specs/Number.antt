@@ -1,5 +1,5 @@
 -- The numbers of the grammar: `0`, decimal digits without a leading zero, or `0x` and hexadecimal digits of either case.
-use Rattle.std.specs.Prelude.{ℕ, ◌+◌, ◌*◌, ◌^◌, ◌==◌, nat_eq, nat_lt, List, [], ◌∷◌, length, drop, codes, Option, None, Some, option_and_then, if◌then◌else◌}
+use Rattle.std.specs.Prelude.{ℕ, ◌+◌, ◌*◌, ◌^◌, ◌==◌, nat_eq, nat_lt, List, [], ◌∷◌, length, drop, codes, Option, None, Some, option_and_then, option_map, if◌then◌else◌}
 use Rattle.std.specs.Char.{digit_value}
 use Rattle.std.specs.List.{starts_with}
 
@@ -33,3 +33,8 @@ below limit (Some n) = if nat_lt n limit then Some n else None
 -- the number that a word is, where it has at most so many bits
 abbrev pub number_of_bits : ℕ → List ℕ → Option ℕ
 number_of_bits bits word = below (2 ^ bits) (number_of word)
+
+-- the number of so many bits that the first word is, and the words behind it
+abbrev pub first_number : ℕ → List (List ℕ) → Option (ℕ × List (List ℕ))
+first_number bits [] = None
+first_number bits (word ∷ words) = option_map (λ n. (n, words)) (number_of_bits bits word)

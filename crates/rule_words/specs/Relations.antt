@@ -8,7 +8,7 @@ use Rattle.rule_words.specs.declared.field_words.Named.{Named}
 use Rattle.rule_words.specs.declared.relations.Relation.{Relation}
 use Rattle.rule_words.specs.declared.relations.Relation.TheVariants as relation
 use Rattle.rule_words.specs.Number.{number_of}
-use Rattle.rule_words.specs.FieldWords.{value_of}
+use Rattle.rule_words.specs.Value.{value_of}
 
 abbrev pub relations : List (List ℕ × Relation)
 relations =
@@ -57,8 +57,8 @@ with_mask item named number = record item { mask = Some (with_number item.mask n
 -- The item with what a relation says. `is` sets the spec to the value and the mask to all ones, `spec`, `last` and `mask`
 -- set those to the value, and `prefix` sets the mask to the most significant bits. A later one replaces an earlier one.
 abbrev pub related : Item → Named → Relation → List ℕ → Option Item
-related item named relation.Is word = option_map (λ value. with_mask (with_spec item named value) named (2 ^ named.bits - 1)) (value_of named word)
-related item named relation.Spec word = option_map (with_spec item named) (value_of named word)
-related item named relation.Last word = option_map (with_last item named) (value_of named word)
-related item named relation.Mask word = option_map (with_mask item named) (value_of named word)
+related item named relation.Is word = option_map (λ value. with_mask (with_spec item named value) named (2 ^ named.bits - 1)) (value_of named.form word)
+related item named relation.Spec word = option_map (with_spec item named) (value_of named.form word)
+related item named relation.Last word = option_map (with_last item named) (value_of named.form word)
+related item named relation.Mask word = option_map (with_mask item named) (value_of named.form word)
 related item named relation.Prefix word = option_map (with_mask item named) (prefix_of named.bits word)

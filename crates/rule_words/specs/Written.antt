@@ -1,42 +1,103 @@
--- Items as they are written, and what they say: the grammar of patterns in its own order.
-use Rattle.std.specs.Prelude.{ℕ, List, [], ◌∷◌, ◌++◌, codes, Option, Some, option_and_then}
+-- Attributes, items, actions and ids as they are written, and what they say: the grammar in its own order.
+use Rattle.std.specs.Prelude.{ℕ, true, List, [], ◌∷◌, ◌++◌, codes, bytes_eq, Bool, false, Option, Some, option_map}
+use Rattle.flow_actions.specs.declared.action.Action.{Action}
+use Rattle.flow_actions.specs.declared.action.Actions.{Actions}
+use Rattle.flow_rules.specs.declared.spec.Attr.{Attr}
 use Rattle.pattern_items.specs.declared.pattern.Item.{Item}
 use Rattle.pattern_items.specs.declared.pattern.Pattern.{Pattern}
 use Rattle.rule_words.specs.Vocabulary.{meaning_of}
-use Rattle.rule_words.specs.FieldWords.{named_by}
-use Rattle.rule_words.specs.Relations.{relations, related}
-use Rattle.rule_words.specs.Items.{kinds, item_of, with_item}
+use Rattle.rule_words.specs.Number.{number_of_bits}
+use Rattle.rule_words.specs.Turns.{◌>>=◌}
+use Rattle.rule_words.specs.Items.{kinds, item_of, with_item, with_field}
+use Rattle.rule_words.specs.Actions.{words, with_word, with_action}
 
--- a field with its relation and its value
+-- things that are written one after the other, and the ending word
+abbrev pub words_up_to : {X : Type 0} → List ℕ → (X → List (List ℕ)) → List X → List (List ℕ)
+words_up_to ending words_of [] = ending ∷ []
+words_up_to ending words_of (x ∷ xs) = words_of x ++ words_up_to ending words_of xs
+
+-- what they make of a value, one after the other
+abbrev pub made_by : {X A : Type 0} → (A → X → Option A) → A → List X → Option A
+made_by make a [] = Some a
+made_by make a (x ∷ xs) = make a x >>= λ after. made_by make after xs
+
+-- "group" GROUP | "priority" PRIO | "ingress" | "egress" | "transfer"
+pub data WrittenAttr : Type 0 where
+  Group : List ℕ → WrittenAttr
+  Priority : List ℕ → WrittenAttr
+  Ingress : WrittenAttr
+  Egress : WrittenAttr
+  Transfer : WrittenAttr
+
+abbrev pub attr_words : WrittenAttr → List (List ℕ)
+attr_words (Group number) = codes "group" ∷ number ∷ []
+attr_words (Priority number) = codes "priority" ∷ number ∷ []
+attr_words Ingress = codes "ingress" ∷ []
+attr_words Egress = codes "egress" ∷ []
+attr_words Transfer = codes "transfer" ∷ []
+
+abbrev pub attr_with : Attr → WrittenAttr → Option Attr
+attr_with attr (Group number) = option_map (λ n. record attr { group = n }) (number_of_bits 32 number)
+attr_with attr (Priority number) = option_map (λ n. record attr { priority = n }) (number_of_bits 32 number)
+attr_with attr Ingress = Some (record attr { ingress = true })
+attr_with attr Egress = Some (record attr { egress = true })
+attr_with attr Transfer = Some (record attr { transfer = true })
+
+-- FIELD REL VALUE
 pub record WrittenField : Type 0 where
   pub field : List ℕ
   pub relation : List ℕ
   pub value : List ℕ
 
--- an item: a kind, or `void`, and its fields
+abbrev pub field_words : WrittenField → List (List ℕ)
+field_words f = f.field ∷ f.relation ∷ f.value ∷ []
+
+abbrev pub item_with : Item → WrittenField → Option Item
+item_with item f = with_field item f.field f.relation f.value
+
+-- KIND { FIELD REL VALUE } "/", where `void` is a kind without fields
 pub record WrittenItem : Type 0 where
   pub kind : List ℕ
   pub fields : List WrittenField
 
--- FIELD REL VALUE, any number of times
-abbrev pub field_words : List WrittenField → List (List ℕ)
-field_words [] = []
-field_words (f ∷ fs) = f.field ∷ f.relation ∷ f.value ∷ field_words fs
+abbrev pub item_words : WrittenItem → List (List ℕ)
+item_words i = i.kind ∷ words_up_to (codes "/") field_words i.fields
 
--- ITEM "/", any number of times, and "end"
-abbrev pub item_words : List WrittenItem → List (List ℕ)
-item_words [] = codes "end" ∷ []
-item_words (i ∷ is) = i.kind ∷ (field_words i.fields ++ codes "/" ∷ item_words is)
+abbrev pub pattern_with : Pattern → WrittenItem → Option Pattern
+pattern_with so_far i = meaning_of kinds i.kind >>= λ k. option_map (with_item so_far) (made_by item_with (item_of k) i.fields)
 
--- the item that fields make of an item, one after the other
-abbrev pub item_with : Item → List WrittenField → Option Item
-item_with item [] = Some item
-item_with item (f ∷ fs) =
-    option_and_then (λ named. option_and_then (λ relation. option_and_then (λ after. item_with after fs)
-    (related item named relation f.value)) (meaning_of relations f.relation)) (named_by item.kind f.field)
+-- a value behind its word
+pub record WrittenValue : Type 0 where
+  pub name : List ℕ
+  pub value : List ℕ
 
--- the pattern that items make behind those so far
-abbrev pub pattern_with : Pattern → List WrittenItem → Option Pattern
-pattern_with so_far [] = Some so_far
-pattern_with so_far (i ∷ is) =
-    option_and_then (λ k. option_and_then (λ item. pattern_with (with_item so_far item) is) (item_with (item_of k) i.fields)) (meaning_of kinds i.kind)
+abbrev pub value_words : WrittenValue → List (List ℕ)
+value_words v = v.name ∷ v.value ∷ []
+
+abbrev pub action_with : Action → WrittenValue → Option Action
+action_with a v = with_word a v.name v.value
+
+-- ACTION "/"
+pub record WrittenAction : Type 0 where
+  pub word : List ℕ
+  pub values : List WrittenValue
+
+abbrev pub action_words : WrittenAction → List (List ℕ)
+action_words a = a.word ∷ words_up_to (codes "/") value_words a.values
+
+abbrev pub actions_with : Actions → WrittenAction → Option Actions
+actions_with so_far a = meaning_of words a.word >>= λ begun. option_map (with_action so_far) (made_by action_with begun a.values)
+
+-- ids, each behind one word
+abbrev pub id_words : List ℕ → List (List ℕ) → List (List ℕ)
+id_words name [] = []
+id_words name (value ∷ values) = name ∷ value ∷ id_words name values
+
+abbrev pub ids_with : ℕ → List (List ℕ) → Option (List ℕ)
+ids_with bits [] = Some []
+ids_with bits (value ∷ values) = number_of_bits bits value >>= λ id. option_map (λ ids. id ∷ ids) (ids_with bits values)
+
+-- the words go on with this one
+abbrev pub goes_on_with : List ℕ → List (List ℕ) → Bool
+goes_on_with name [] = false
+goes_on_with name (word ∷ others) = bytes_eq word name

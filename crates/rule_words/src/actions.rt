@@ -1,9 +1,12 @@
 //! The actions of a rule.
-ghost use Rattle.std.specs.Prelude.{◌≡◌, map, option_map};
+ghost use Rattle.std.specs.Prelude.{◌≡◌, ◌≤◌, IfSome, map, option_map};
 ghost use Rattle.rule_words.specs.Actions as spec;
+ghost use Rattle.rule_words.specs.Actions.{FitsIn};
+ghost use Rattle.rule_words.specs.Value.{width_of};
 ghost use Rattle.rule_words.specs.Vocabulary.{meaning_of};
 
-use crate::number::number_of_bits;
+use crate::turns::{Turn, behind, read_up_to};
+use crate::value::{Form, read_value};
 use crate::vocabulary::meaning;
 use arrayvec::ArrayVec;
 use flow_actions::{Action, Actions};
@@ -15,20 +18,85 @@ static WORDS: [(&str, Action); 4] = [
     ("jump", Action::Jump(0)),
 ];
 
-/// What is open in front of a word.
-#[derive(Clone, Copy)]
-enum Unfinished {
-    BetweenActions,
-    InAction(Action),
-    /// The action's value comes.
-    AtValue(Action),
-}
-
 /// The action that a word begins.
 fn begun_by(word: &[u8]) -> Option<Action>
     ensures { result ≡ meaning_of spec.words word.now }
 {
     meaning(&WORDS, word)
+}
+
+/// The word in front of an action's value, and how the value is written.
+fn value_row(action: Action) -> Option<(&'static [u8], Form)>
+    ensures value { option_map (λ row. (row.0.now, row.1)) result ≡ spec.value_row action }
+    ensures narrow { IfSome result (λ row. width_of row.1 ≤ 128) }
+{
+    match action {
+        Action::Void => None,
+        Action::Queue(_) => Some((b"index", Form::Number(16))),
+        Action::Drop => None,
+        Action::Jump(_) => Some((b"group", Form::Number(32))),
+    }
+}
+
+/// The action with another value.
+fn with_value(action: Action, value: u128) -> Action
+    requires { FitsIn action value }
+    ensures { result ≡ spec.with_value action value }
+{
+    match action {
+        Action::Void => Action::Void,
+        Action::Queue(_) => Action::Queue(value as u16),
+        Action::Drop => Action::Drop,
+        Action::Jump(_) => Action::Jump(value as u32),
+    }
+}
+
+/// The action with the value that a word is, behind the word in front of it.
+fn with_word(action: Action, name: &[u8], word: &[u8]) -> Option<Action>
+    ensures { result ≡ spec.with_word action name.now word.now }
+{
+    let (value_name, form) = value_row(action)?;
+    if name != value_name {
+        return None;
+    }
+    let value = read_value(form, word)?;
+    Some(with_value(action, value))
+}
+
+impl Turn for Action {
+    ghost turn = { spec.setting };
+
+    /// A word and the value behind it.
+    fn take_turn(&mut self, words: &[&[u8]]) -> Option<usize> {
+        let [name, word, ..] = words else {
+            return None;
+        };
+        let Some(after) = with_word(*self, name, word) else {
+            return None;
+        };
+        *self = after;
+        Some(2)
+    }
+}
+
+impl Turn for Actions {
+    ghost turn = { spec.action_behind };
+
+    /// An action and its `/`.
+    fn take_turn(&mut self, words: &[&[u8]]) -> Option<usize> {
+        let Some((word, rest)) = words.split_first() else {
+            return None;
+        };
+        let Some(action) = begun_by(word) else {
+            return None;
+        };
+        let mut action = action;
+        let Some(taken) = read_up_to(b"/", &mut action, rest) else {
+            return None;
+        };
+        add_action(self, action);
+        Some(1 + taken)
+    }
 }
 
 /// Reads actions up to `end`, and gives the words behind it.
@@ -40,81 +108,10 @@ pub fn read_actions<'w, 'a>(words: &'w [&'a [u8]]) -> Option<(Actions, &'w [&'a 
         list: ArrayVec::new(),
         more: 0,
     };
-    let mut part = Unfinished::BetweenActions;
-    for (i, word) in words.iter().enumerate() {
-        if is_end(part, word) {
-            return Some((actions, &words[i + 1..]));
-        }
-        part = next(&mut actions, part, word)?;
-    }
-    None
-}
-
-/// Whether a word is the `end` behind the actions.
-fn is_end(part: Unfinished, word: &[u8]) -> bool
-    ensures { result ≡ spec.is_end part word.now }
-{
-    match part {
-        Unfinished::BetweenActions => word == b"end".as_slice(),
-        _ => false,
-    }
-}
-
-/// What is open behind a word. An action that the word closes goes to the others.
-fn next(actions: &mut Actions, part: Unfinished, word: &[u8]) -> Option<Unfinished>
-    ensures { option_map (λ after. (actions.new, after)) result ≡ spec.next actions.old part word.now }
-{
-    match part {
-        Unfinished::BetweenActions => {
-            let action = begun_by(word)?;
-            Some(Unfinished::InAction(action))
-        }
-        Unfinished::InAction(action) => {
-            if word == b"/".as_slice() {
-                add_action(actions, action);
-                return Some(Unfinished::BetweenActions);
-            }
-            let name = value_word(action)?;
-            if word != name {
-                return None;
-            }
-            Some(Unfinished::AtValue(action))
-        }
-        Unfinished::AtValue(action) => {
-            let after = with_value(action, word)?;
-            Some(Unfinished::InAction(after))
-        }
-    }
-}
-
-/// The word in front of an action's value, if it has one.
-fn value_word(action: Action) -> Option<&'static [u8]>
-    ensures { option_map (λ word. word.now) result ≡ spec.value_word action }
-{
-    match action {
-        Action::Void => None,
-        Action::Queue(_) => Some(b"index"),
-        Action::Drop => None,
-        Action::Jump(_) => Some(b"group"),
-    }
-}
-
-/// The action with another value.
-fn with_value(action: Action, word: &[u8]) -> Option<Action>
-    ensures { result ≡ spec.with_value action word.now }
-{
-    match action {
-        Action::Void => None,
-        Action::Queue(_) => {
-            let number = number_of_bits(16, word)?;
-            Some(Action::Queue(number as u16))
-        }
-        Action::Drop => None,
-        Action::Jump(_) => {
-            let number = number_of_bits(32, word)?;
-            Some(Action::Jump(number as u32))
-        }
-    }
+    let Some(taken) = read_up_to(b"end", &mut actions, words) else {
+        return None;
+    };
+    Some((actions, behind(taken, words)))
 }
 
 /// Puts an action behind the others, or counts it where there are 16 already.

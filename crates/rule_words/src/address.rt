@@ -118,7 +118,8 @@ fn read_groups(address: Address, text: &[u8]) -> Option<Groups>
 
 /// The number of an address.
 pub(crate) fn read_address(address: Address, text: &[u8]) -> Option<u128>
-    ensures { result ≡ spec.address_of address text.now }
+    ensures value { result ≡ spec.address_of address text.now }
+    ensures small { IfSome result (λ n. n < 2 ^ spec.width_of address) }
 {
     if let Address::Ip6 = address {
         if let Some((front, back)) = sides(text) {
@@ -130,7 +131,8 @@ pub(crate) fn read_address(address: Address, text: &[u8]) -> Option<u128>
 
 /// The number of an address that has all its groups.
 fn read_whole(address: Address, text: &[u8]) -> Option<u128>
-    ensures { result ≡ spec.whole_address address (pieces address text.now) }
+    ensures value { result ≡ spec.whole_address address (pieces address text.now) }
+    ensures small { IfSome result (λ n. n < 2 ^ spec.width_of address) }
 {
     let groups = read_groups(address, text)?;
     if groups.count != address.most_groups() {

@@ -1,9 +1,11 @@
 //! The attributes of a rule.
-ghost use Rattle.std.specs.Prelude.{◌≡◌, map, option_map};
+ghost use Rattle.std.specs.Prelude.{◌≡◌, drop, map, option_map};
 ghost use Rattle.rule_words.specs.Attributes as spec;
+ghost use Rattle.rule_words.specs.Number.{first_number};
 ghost use Rattle.rule_words.specs.Vocabulary.{meaning_of};
 
 use crate::number::number_of_bits;
+use crate::turns::{Turn, behind, read_up_to};
 use crate::vocabulary::meaning;
 use flow_rules::Attr;
 
@@ -25,21 +27,63 @@ static WORDS: [(&str, AttrWord); 5] = [
     ("transfer", AttrWord::Transfer),
 ];
 
-/// What comes next.
-#[derive(Clone, Copy)]
-enum Awaited {
-    Attribute,
-    /// The number of the group.
-    Group,
-    /// The number of the priority.
-    Priority,
-}
-
 /// What a word of the attributes says.
 fn word_meaning(word: &[u8]) -> Option<AttrWord>
     ensures { result ≡ meaning_of spec.words word.now }
 {
     meaning(&WORDS, word)
+}
+
+impl Turn for Attr {
+    ghost turn = { spec.attribute };
+
+    /// A direction, or the word of a number with the number.
+    fn take_turn(&mut self, words: &[&[u8]]) -> Option<usize> {
+        let Some((word, rest)) = words.split_first() else {
+            return None;
+        };
+        let Some(said) = word_meaning(word) else {
+            return None;
+        };
+        match said {
+            AttrWord::Group => {
+                let Some(group) = number_in_front(rest) else {
+                    return None;
+                };
+                self.group = group;
+                Some(2)
+            }
+            AttrWord::Priority => {
+                let Some(priority) = number_in_front(rest) else {
+                    return None;
+                };
+                self.priority = priority;
+                Some(2)
+            }
+            AttrWord::Ingress => {
+                self.ingress = true;
+                Some(1)
+            }
+            AttrWord::Egress => {
+                self.egress = true;
+                Some(1)
+            }
+            AttrWord::Transfer => {
+                self.transfer = true;
+                Some(1)
+            }
+        }
+    }
+}
+
+/// The number of 32 bits that the first word is.
+fn number_in_front(words: &[&[u8]]) -> Option<u32>
+    ensures { option_map (λ number. (number, drop 1 (map (λ word. word.now) words.now))) result
+        ≡ first_number 32 (map (λ word. word.now) words.now) }
+{
+    let word = words.first()?;
+    let number = number_of_bits(32, word)?;
+    Some(number as u32)
 }
 
 /// Reads attributes up to the word that ends them, and gives the words behind it.
@@ -57,75 +101,8 @@ pub fn read_attributes<'w, 'a>(
         egress: false,
         transfer: false,
     };
-    let mut part = Awaited::Attribute;
-    for (i, word) in words.iter().enumerate() {
-        if is_end(ending, part, word) {
-            return Some((attr, &words[i + 1..]));
-        }
-        (attr, part) = next(attr, part, word)?;
-    }
-    None
-}
-
-/// Whether a word ends the attributes.
-fn is_end(ending: &[u8], part: Awaited, word: &[u8]) -> bool
-    ensures { result ≡ spec.is_end ending.now part word.now }
-{
-    match part {
-        Awaited::Attribute => word == ending,
-        _ => false,
-    }
-}
-
-/// The attributes behind a word, and what comes next.
-fn next(attr: Attr, part: Awaited, word: &[u8]) -> Option<(Attr, Awaited)>
-    ensures { result ≡ spec.next attr part word.now }
-{
-    match part {
-        Awaited::Attribute => {
-            let said = word_meaning(word)?;
-            Some(named(attr, said))
-        }
-        Awaited::Group => {
-            let number = number_of_bits(32, word)?;
-            let group = number as u32;
-            Some((Attr { group, ..attr }, Awaited::Attribute))
-        }
-        Awaited::Priority => {
-            let number = number_of_bits(32, word)?;
-            let priority = number as u32;
-            Some((Attr { priority, ..attr }, Awaited::Attribute))
-        }
-    }
-}
-
-/// The attributes behind a word that says this, and what comes next.
-fn named(attr: Attr, said: AttrWord) -> (Attr, Awaited)
-    ensures { result ≡ spec.named attr said }
-{
-    match said {
-        AttrWord::Group => (attr, Awaited::Group),
-        AttrWord::Priority => (attr, Awaited::Priority),
-        AttrWord::Ingress => (
-            Attr {
-                ingress: true,
-                ..attr
-            },
-            Awaited::Attribute,
-        ),
-        AttrWord::Egress => (
-            Attr {
-                egress: true,
-                ..attr
-            },
-            Awaited::Attribute,
-        ),
-        AttrWord::Transfer => (
-            Attr {
-                transfer: true,
-                ..attr
-            },
-            Awaited::Attribute,
-        ),
-    }
+    let Some(taken) = read_up_to(ending, &mut attr, words) else {
+        return None;
+    };
+    Some((attr, behind(taken, words)))
 }

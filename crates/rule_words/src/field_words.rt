@@ -3,8 +3,8 @@ ghost use Rattle.std.specs.Prelude.{◌≡◌, IfSome};
 ghost use Rattle.rule_words.specs.FieldWords as spec;
 ghost use Rattle.rule_words.specs.FieldWords.{IsInItem};
 
-use crate::address::{Address, read_address};
-use crate::number::number_of_bits;
+use crate::address::Address;
+use crate::value::Form;
 use packet_headers::{ItemKind, fields_of};
 
 /// Which of an item's numbers a word names.
@@ -14,13 +14,6 @@ pub(crate) enum Spot {
     Field(usize),
     /// The three fields of a tag's control information at once: pcp (3 bits), dei (1 bit) and vid (12 bits).
     Tci,
-}
-
-/// How a value is written.
-#[derive(Clone, Copy)]
-pub(crate) enum Form {
-    Number,
-    Address(Address),
 }
 
 /// What a field word names: where its number stands in the item, its width, and how it is written.
@@ -40,7 +33,7 @@ pub(crate) fn named_by(kind: ItemKind, word: &[u8]) -> Option<Named>
         return Some(Named {
             spot: Spot::Tci,
             bits: 16,
-            form: Form::Number,
+            form: Form::Number(16),
         });
     }
     let fields = fields_of(kind);
@@ -73,17 +66,6 @@ fn form_of(bits: u8) -> Form
         48 => Form::Address(Address::Mac),
         32 => Form::Address(Address::Ip4),
         128 => Form::Address(Address::Ip6),
-        _ => Form::Number,
-    }
-}
-
-/// The value that a word is for what is named.
-pub(crate) fn read_value(named: Named, word: &[u8]) -> Option<u128>
-    requires { IsInItem named }
-    ensures { result ≡ spec.value_of named word.now }
-{
-    match named.form {
-        Form::Number => number_of_bits(named.bits, word),
-        Form::Address(address) => read_address(address, word),
+        _ => Form::Number(bits),
     }
 }

@@ -1,11 +1,11 @@
 //! The items of a pattern.
-ghost use Rattle.std.specs.Prelude.{◌≡◌, IfSome, map, option_map};
+ghost use Rattle.std.specs.Prelude.{◌≡◌, map, option_map};
 ghost use Rattle.rule_words.specs.Items as spec;
-ghost use Rattle.rule_words.specs.Items.{IsInTable};
 ghost use Rattle.rule_words.specs.Vocabulary.{meaning_of};
 
-use crate::field_words::{Named, named_by};
-use crate::relations::{Relation, related, relation_of};
+use crate::field_words::named_by;
+use crate::relations::{related, relation_of};
+use crate::turns::{Turn, behind, read_up_to};
 use crate::vocabulary::meaning;
 use arrayvec::ArrayVec;
 use packet_headers::ItemKind;
@@ -29,15 +29,61 @@ fn kind_of(word: &[u8]) -> Option<ItemKind>
     meaning(&KINDS, word)
 }
 
-/// What is open in front of a word.
-#[derive(Clone, Copy)]
-enum Open {
-    BetweenItems,
-    InItem(Item),
-    /// A field of the item was named, and its relation comes.
-    AtField(Item, Named),
-    /// The relation to the field was named, and its value comes.
-    AtRelation(Item, Named, Relation),
+/// The item of a kind of which nothing is said.
+fn item_of(kind: ItemKind) -> Item
+    ensures { result ≡ spec.item_of kind }
+{
+    Item {
+        kind,
+        given: None,
+        last: None,
+        mask: None,
+    }
+}
+
+/// The item with what a field says with a relation and a value.
+fn with_field(item: Item, word: &[u8], relation: &[u8], value: &[u8]) -> Option<Item>
+    ensures { result ≡ spec.with_field item word.now relation.now value.now }
+{
+    let named = named_by(item.kind, word)?;
+    let how = relation_of(relation)?;
+    related(item, named, how, value)
+}
+
+impl Turn for Item {
+    ghost turn = { spec.field };
+
+    /// A field, a relation and a value.
+    fn take_turn(&mut self, words: &[&[u8]]) -> Option<usize> {
+        let [word, relation, value, ..] = words else {
+            return None;
+        };
+        let Some(after) = with_field(*self, word, relation, value) else {
+            return None;
+        };
+        *self = after;
+        Some(3)
+    }
+}
+
+impl Turn for Pattern {
+    ghost turn = { spec.item_behind };
+
+    /// An item and its `/`.
+    fn take_turn(&mut self, words: &[&[u8]]) -> Option<usize> {
+        let Some((word, rest)) = words.split_first() else {
+            return None;
+        };
+        let Some(kind) = kind_of(word) else {
+            return None;
+        };
+        let mut item = item_of(kind);
+        let Some(taken) = read_up_to(b"/", &mut item, rest) else {
+            return None;
+        };
+        add_item(self, item);
+        Some(1 + taken)
+    }
 }
 
 /// Reads items up to `end`, and gives the words behind it.
@@ -49,59 +95,10 @@ pub fn read_items<'w, 'a>(words: &'w [&'a [u8]]) -> Option<(Pattern, &'w [&'a [u
         items: ArrayVec::new(),
         more: 0,
     };
-    let mut part = Open::BetweenItems;
-    for (i, word) in words.iter().enumerate() {
-        if is_end(part, word) {
-            return Some((pattern, &words[i + 1..]));
-        }
-        part = next(&mut pattern, part, word)?;
-    }
-    None
-}
-
-/// Whether a word is the `end` behind the items.
-fn is_end(part: Open, word: &[u8]) -> bool
-    ensures { result ≡ spec.is_end part word.now }
-{
-    match part {
-        Open::BetweenItems => word == b"end".as_slice(),
-        _ => false,
-    }
-}
-
-/// What is open behind a word. An item that the word closes goes to the others.
-fn next(pattern: &mut Pattern, part: Open, word: &[u8]) -> Option<Open>
-    requires { IsInTable part }
-    ensures value { option_map (λ after. (pattern.new, after)) result ≡ spec.next pattern.old part word.now }
-    ensures in_table { IfSome result IsInTable }
-{
-    match part {
-        Open::BetweenItems => {
-            let kind = kind_of(word)?;
-            Some(Open::InItem(Item {
-                kind,
-                given: None,
-                last: None,
-                mask: None,
-            }))
-        }
-        Open::InItem(item) => {
-            if word == b"/".as_slice() {
-                add_item(pattern, item);
-                return Some(Open::BetweenItems);
-            }
-            let named = named_by(item.kind, word)?;
-            Some(Open::AtField(item, named))
-        }
-        Open::AtField(item, named) => {
-            let relation = relation_of(word)?;
-            Some(Open::AtRelation(item, named, relation))
-        }
-        Open::AtRelation(item, named, relation) => {
-            let after = related(item, named, relation, word)?;
-            Some(Open::InItem(after))
-        }
-    }
+    let Some(taken) = read_up_to(b"end", &mut pattern, words) else {
+        return None;
+    };
+    Some((pattern, behind(taken, words)))
 }
 
 /// Puts an item behind the others, or counts it where there are 16 already.

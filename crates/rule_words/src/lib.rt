@@ -7,24 +7,28 @@
 //! ```
 //!
 //! Each reader takes one of these lists from the front of some words and gives what it says, with the words behind it:
-//! [`read_attributes`] up to a word that the caller names, [`read_items`] and [`read_actions`] up to their `end`. Where the
-//! words don't fit, or a value is wider than its field, there is none. [`number_of_bits`] reads one number, and
-//! [`flag_and_rest`] one word that switches something on or off.
+//! [`read_attributes`] up to a word that the caller names, [`read_items`] and [`read_actions`] up to their `end`, and
+//! [`read_ids`] ids that stand behind one word each. Where the words don't fit, or a value is wider than its field, there
+//! is none. [`first_number`] reads one number, [`flag_and_rest`] one word that switches something on or off, and
+//! [`meaning`] looks a word up in a table.
 //!
 //! - A number is `0`, decimal digits without a leading zero, or `0x` and hexadecimal digits in either case.
 //! - A value of an item is a number of its field's width, or an address as RFC 4291 and the field's kind have them. The
 //!   words of fields and their widths are those of the field table in `packet_headers`.
 //! - A later word on one thing replaces an earlier one, and what isn't named is 0.
 //!
-//! The model: words are lists of bytes, and each reader is a recursion of one word a step, which knows what was read so
-//! far and what is open in front of the next word: nothing, an item, a field of it, or a relation to that field. What was
-//! read so far and the words that are left make the result, at each word; so the code is one loop with that state, and
-//! copies no text. `specs/Number`, `Address`, `Vocabulary`, `FieldWords`, `Relations` and `Items` have the parts of a
-//! pattern, `specs/Attributes`, `Actions` and `Flags` the rest. `specs/Written` has the grammar of patterns in its own
-//! order, items of a kind with fields, and [`written_items_are_read`] says that patterns are read by this grammar, in both
-//! directions.
+//! The model: words are lists of bytes. A list is read turn by turn up to its ending word, and a turn is a definition by
+//! cases on words: what the first of them say, and what is left. `specs/Turns` says how turns make a list, and it is the
+//! same for attributes, items, the fields of an item, actions and the values of an action; a list inside a list, up to an
+//! `end` of its own, is a turn that reads up to that. So a word more is a row of a table and a case that says what its
+//! value does. `specs/Attributes`, `Items`, `Actions` and `Ids` have the turns, `specs/FieldWords`, `Relations`, `Value`,
+//! `Number` and `Address` what stands in one, and `specs/Vocabulary` the look-up.
 //!
-//! Nothing here takes memory or is kept between calls. Whether a rule has a fault isn't asked here.
+//! `specs/Written` has the grammar in its own order, and the four laws of `written.rt` say that what is written by it is
+//! read as what it says; for items and actions also that what is read was written so.
+//!
+//! The code is one loop, in `turns.rt`, over a trait whose turn each type says; it counts words and copies none. Nothing
+//! here takes memory or is kept between calls. Whether a rule has a fault isn't asked here.
 #![tactic(auto)]
 
 mod actions;
@@ -32,15 +36,23 @@ mod address;
 mod attributes;
 mod field_words;
 mod flags;
+mod ids;
 mod items;
 mod number;
 mod relations;
+mod turns;
+mod value;
 mod vocabulary;
 mod written;
 
 pub use actions::read_actions;
 pub use attributes::read_attributes;
 pub use flags::flag_and_rest;
+pub use ids::{IdList, MAX_IDS, read_ids};
 pub use items::read_items;
-pub use number::number_of_bits;
-pub use written::written_items_are_read;
+pub use number::{first_number, number_of_bits};
+pub use vocabulary::meaning;
+pub use written::{
+    written_actions_are_read, written_attributes_are_read, written_ids_are_read,
+    written_items_are_read,
+};

@@ -1,12 +1,13 @@
 //! The numbers of the grammar.
-ghost use Rattle.std.specs.Prelude.{◌≡◌, ◌+◌, ◌-◌, ◌*◌, ◌≤◌, ◌^◌};
+ghost use Rattle.std.specs.Prelude.{◌≡◌, ◌+◌, ◌-◌, ◌*◌, ◌<◌, ◌≤◌, ◌^◌, IfSome, map, option_map};
 ghost use Rattle.rule_words.specs.Number as spec;
 ghost use Rattle.rule_words.specs.Number.{number_of, number_in, decimal_number, below};
 
 /// The number that a word is, where it is one and has at most so many bits.
 pub fn number_of_bits(bits: u8, word: &[u8]) -> Option<u128>
     requires { bits ≤ 128 }
-    ensures { result ≡ spec.number_of_bits bits word.now }
+    ensures value { result ≡ spec.number_of_bits bits word.now }
+    ensures small { IfSome result (λ number. number < 2 ^ bits) }
 {
     let value = number_of_128_bits(word)?;
     if value > ones(bits) {
@@ -68,4 +69,16 @@ fn with_digit(value: u128, base: u32, digit: u32) -> Option<u128>
 {
     let moved = value.checked_mul(base as u128)?;
     moved.checked_add(digit as u128)
+}
+
+/// The number of so many bits that the first word is, and the words behind it.
+pub fn first_number<'w, 'a>(bits: u8, words: &'w [&'a [u8]]) -> Option<(u128, &'w [&'a [u8]])>
+    requires { bits ≤ 128 }
+    ensures value { option_map (λ read. (read.0, map (λ word. word.now) read.1.now)) result
+        ≡ spec.first_number bits (map (λ word. word.now) words.entry.now) }
+    ensures small { IfSome result (λ read. read.0 < 2 ^ bits) }
+{
+    let (word, rest) = words.split_first()?;
+    let number = number_of_bits(bits, word)?;
+    Some((number, rest))
 }

@@ -4,8 +4,9 @@ ghost use Rattle.rule_words.specs.FieldWords.{IsInItem, IsPlace};
 ghost use Rattle.rule_words.specs.Relations as spec;
 ghost use Rattle.rule_words.specs.Vocabulary.{meaning_of};
 
-use crate::field_words::{Named, Spot, read_value};
+use crate::field_words::{Named, Spot};
 use crate::number::{number_of_bits, ones};
+use crate::value::read_value;
 use crate::vocabulary::meaning;
 use pattern_items::{Fields, Item};
 
@@ -41,7 +42,7 @@ pub(crate) fn related(item: Item, named: Named, relation: Relation, word: &[u8])
 {
     match relation {
         Relation::Is => {
-            let value = read_value(named, word)?;
+            let value = read_value(named.form, word)?;
             let given = with_number(item.given, named.spot, value);
             let mask = with_number(item.mask, named.spot, ones(named.bits));
             Some(Item {
@@ -51,7 +52,7 @@ pub(crate) fn related(item: Item, named: Named, relation: Relation, word: &[u8])
             })
         }
         Relation::Spec => {
-            let value = read_value(named, word)?;
+            let value = read_value(named.form, word)?;
             let given = with_number(item.given, named.spot, value);
             Some(Item {
                 given: Some(given),
@@ -59,7 +60,7 @@ pub(crate) fn related(item: Item, named: Named, relation: Relation, word: &[u8])
             })
         }
         Relation::Last => {
-            let value = read_value(named, word)?;
+            let value = read_value(named.form, word)?;
             let last = with_number(item.last, named.spot, value);
             Some(Item {
                 last: Some(last),
@@ -67,7 +68,7 @@ pub(crate) fn related(item: Item, named: Named, relation: Relation, word: &[u8])
             })
         }
         Relation::Mask => {
-            let value = read_value(named, word)?;
+            let value = read_value(named.form, word)?;
             let mask = with_number(item.mask, named.spot, value);
             Some(Item {
                 mask: Some(mask),
