@@ -1,125 +1,101 @@
--- The forms of a line: each reads a whole list of words, or doesn't fit it.
-use Rattle.std.specs.Prelude.{ℕ, Bool, ◌==◌, ◌&&◌, nat_le, List, [], ◌∷◌, codes, Option, None, Some, option_and_then, option_map, if◌then◌else◌}
+-- The forms of a line: its first word names a command, and a flow line's verb what it asks.
+use Rattle.std.specs.Prelude.{ℕ, ◌==◌, ◌&&◌, nat_le, List, [], ◌∷◌, map, codes, bytes_eq, Option, None, Some, option_map, if◌then◌else◌}
 use Rattle.adapter.specs.declared.call.Op.{Op}
 use Rattle.adapter.specs.declared.call.Op.TheVariants as ops
+use Rattle.adapter.specs.declared.call.BadKind.TheVariants as kinds
 use Rattle.flow_actions.specs.declared.action.Actions.{Actions}
 use Rattle.flow_rules.specs.declared.spec.RuleSpec.{RuleSpec}
-use Rattle.adapter.specs.declared.call.BadKind.TheVariants as kinds
-use Rattle.flow_grammar.specs.declared.line.Line.{Line}
-use Rattle.flow_grammar.specs.declared.line.Line.TheVariants as lines
-use Rattle.flow_grammar.specs.Words.{are_words, behind}
-use Rattle.rule_words.specs.Number.{number_of_bits}
+use Rattle.rule_words.specs.Turns.{◌>>=◌}
+use Rattle.rule_words.specs.Vocabulary.{meaning_of}
+use Rattle.rule_words.specs.Number.{first_number}
 use Rattle.rule_words.specs.Attributes.{attributes_of}
 use Rattle.rule_words.specs.Items.{items_of}
 use Rattle.rule_words.specs.Actions.{actions_of}
 use Rattle.rule_words.specs.Flags.{flag_and_rest}
-use Rattle.flow_grammar.specs.Destroys.{destroys_of}
-
--- what is read, and how to go on with it
-infixl 10 ◌>>=◌
-abbrev pub ◌>>=◌ : {X Y : Type 0} → Option X → (X → Option Y) → Option Y
-read >>= next = option_and_then next read
-
--- the number that the first word is, of so many bits, and the words behind it
-abbrev pub number_and_rest : ℕ → List (List ℕ) → Option (ℕ × List (List ℕ))
-number_and_rest bits [] = None
-number_and_rest bits (word ∷ words) = option_map (λ n. (n, words)) (number_of_bits bits word)
-
--- `start`: all frames that remain
-unfoldable pub start_form : List (List ℕ) → Option Line
-start_form words = if are_words (codes "start" ∷ []) words then Some (lines.Start None) else None
-
--- a phase of 1 to 1,048,576 frames
-abbrev pub phase_of : ℕ → Option Line
-phase_of count = if nat_le 1 count && nat_le count 1048576 then Some (lines.Start (Some count)) else None
-
--- `forward NUMBER`
-unfoldable pub forward_form : List (List ℕ) → Option Line
-forward_form words = do
-  rest ← behind (codes "forward" ∷ []) words
-  count ← number_and_rest 32 rest
-  if are_words [] count.1 then phase_of count.0 else None
-
--- `stop`
-unfoldable pub stop_form : List (List ℕ) → Option Line
-stop_form words = if are_words (codes "stop" ∷ []) words then Some lines.Stop else None
-
--- `quit`
-unfoldable pub quit_form : List (List ℕ) → Option Line
-quit_form words = if are_words (codes "quit" ∷ []) words then Some lines.Quit else None
-
--- a flow line asks for ops on port 0, the only one
-abbrev pub flow_line : ℕ → List Op → Line
-flow_line port asked = if port == 0 then lines.Calls asked else lines.Bad kinds.Port
-
--- the port of a flow line of this verb, and the words behind it
-abbrev pub flow_port : List ℕ → List (List ℕ) → Option (ℕ × List (List ℕ))
-flow_port verb words = behind (codes "flow" ∷ verb ∷ []) words >>= number_and_rest 32
+use Rattle.rule_words.specs.Ids.{ids_of}
+use Rattle.flow_grammar.specs.declared.line.Line.{Line}
+use Rattle.flow_grammar.specs.declared.line.Line.TheVariants as lines
+use Rattle.flow_grammar.specs.declared.forms.Command.{Command}
+use Rattle.flow_grammar.specs.declared.forms.Command.TheVariants as command
+use Rattle.flow_grammar.specs.declared.verbs.Verb.{Verb}
+use Rattle.flow_grammar.specs.declared.verbs.Verb.TheVariants as verb
+use Rattle.flow_grammar.specs.Words.{behind, at_end}
 
 -- the actions of words that end with them
 unfoldable pub last_actions_of : List (List ℕ) → Option Actions
-last_actions_of words = do
-  actions ← actions_of words
-  if are_words [] actions.1 then Some actions.0 else None
+last_actions_of words = actions_of words >>= λ actions. at_end actions.1 actions.0
 
--- the rule of `ATTRS pattern ITEMS actions ACTIONS`
+-- `ATTRS pattern ITEMS actions ACTIONS`, and no more
 unfoldable pub rule_of : List (List ℕ) → Option RuleSpec
 rule_of words = do
   attr ← attributes_of (codes "pattern") words
   pattern ← items_of attr.1
-  rest ← behind (codes "actions" ∷ []) pattern.1
+  rest ← behind (codes "actions") pattern.1
   actions ← last_actions_of rest
   Some (record { attr = attr.0; pattern = pattern.0; actions = actions })
 
--- the port and the rule of `flow VERB PORT RULE`
-unfoldable pub ported_rule_of : List ℕ → List (List ℕ) → Option (ℕ × RuleSpec)
-ported_rule_of verb words = do
-  port ← flow_port verb words
-  rule ← rule_of port.1
-  Some (port.0, rule)
+-- `rule RULE { rule RULE }`, at most 64 of them: a call for each
+unfoldable pub destroys_of : List (List ℕ) → Option (List Op)
+destroys_of words = ids_of (codes "rule") 32 64 words >>= λ ids. at_end ids.1 (map ops.Destroy ids.0)
 
-abbrev pub validate_form : List (List ℕ) → Option Line
-validate_form words = option_map (λ read. flow_line read.0 (ops.Validate read.1 ∷ [])) (ported_rule_of (codes "validate") words)
+-- `BOOL`
+unfoldable pub switch_of : List (List ℕ) → Option Op
+switch_of words = flag_and_rest words >>= λ on. at_end on.1 (ops.Isolate on.0)
 
-abbrev pub create_form : List (List ℕ) → Option Line
-create_form words = option_map (λ read. flow_line read.0 (ops.Create read.1 ∷ [])) (ported_rule_of (codes "create") words)
+-- the verbs of flow lines
+abbrev pub verbs : List (List ℕ × Verb)
+verbs =
+    (codes "validate", verb.Validate)
+    ∷ (codes "create", verb.Create)
+    ∷ (codes "destroy", verb.Destroy)
+    ∷ (codes "flush", verb.Flush)
+    ∷ (codes "list", verb.List)
+    ∷ (codes "isolate", verb.Isolate)
+    ∷ []
 
--- the port of `flow VERB PORT`
-unfoldable pub port_of : List ℕ → List (List ℕ) → Option ℕ
-port_of verb words = do
-  port ← flow_port verb words
-  if are_words [] port.1 then Some port.0 else None
+-- what the words behind `flow VERB PORT` ask
+abbrev pub asked : Verb → List (List ℕ) → Option (List Op)
+asked verb.Validate words = option_map (λ rule. ops.Validate rule ∷ []) (rule_of words)
+asked verb.Create words = option_map (λ rule. ops.Create rule ∷ []) (rule_of words)
+asked verb.Destroy words = destroys_of words
+asked verb.Flush words = at_end words (ops.Flush ∷ [])
+asked verb.List words = at_end words (ops.List ∷ [])
+asked verb.Isolate words = option_map (λ op. op ∷ []) (switch_of words)
 
-abbrev pub flush_form : List (List ℕ) → Option Line
-flush_form words = option_map (λ port. flow_line port (ops.Flush ∷ [])) (port_of (codes "flush") words)
+-- a flow line asks on port 0, the only one
+abbrev pub on_port : ℕ → List Op → Line
+on_port port ops = if port == 0 then lines.Calls ops else lines.Bad kinds.Port
 
-abbrev pub list_form : List (List ℕ) → Option Line
-list_form words = option_map (λ port. flow_line port (ops.List ∷ [])) (port_of (codes "list") words)
+-- `flow VERB PORT ..`
+unfoldable pub flow_line : List (List ℕ) → Option Line
+flow_line [] = None
+flow_line (word ∷ words) = do
+  v ← meaning_of verbs word
+  port ← first_number 32 words
+  ops ← asked v port.1
+  Some (on_port port.0 ops)
 
--- the port and the switch of `flow isolate PORT BOOL`
-unfoldable pub switch_of : List (List ℕ) → Option (ℕ × Bool)
-switch_of words = do
-  port ← flow_port (codes "isolate") words
-  on ← flag_and_rest port.1
-  if are_words [] on.1 then Some (port.0, on.0) else None
+-- `forward NUMBER`: a phase of 1 to 1,048,576 frames, as many as phases reach
+abbrev pub phase_of : ℕ → Option Line
+phase_of count = if nat_le 1 count && nat_le count 1048576 then Some (lines.Start (Some count)) else None
 
-abbrev pub isolate_form : List (List ℕ) → Option Line
-isolate_form words = option_map (λ read. flow_line read.0 (ops.Isolate read.1 ∷ [])) (switch_of words)
+unfoldable pub forward_line : List (List ℕ) → Option Line
+forward_line words = first_number 32 words >>= λ count. at_end count.1 count.0 >>= phase_of
 
--- the port and the ops of `flow destroy PORT rule RULE { rule RULE }`
-unfoldable pub destroy_of : List (List ℕ) → Option (ℕ × List Op)
-destroy_of words = do
-  port ← flow_port (codes "destroy") words
-  asked ← destroys_of port.1
-  Some (port.0, asked)
+-- the commands
+abbrev pub commands : List (List ℕ × Command)
+commands =
+    (codes "flow", command.Flow)
+    ∷ (codes "start", command.Start)
+    ∷ (codes "forward", command.Forward)
+    ∷ (codes "stop", command.Stop)
+    ∷ (codes "quit", command.Quit)
+    ∷ []
 
-abbrev pub destroy_form : List (List ℕ) → Option Line
-destroy_form words = option_map (λ read. flow_line read.0 read.1) (destroy_of words)
-
--- the forms of flow lines
-abbrev pub flow_forms : List (List (List ℕ) → Option Line)
-flow_forms = validate_form ∷ create_form ∷ destroy_form ∷ flush_form ∷ list_form ∷ isolate_form ∷ []
-
--- the forms of lines that open and close phases, and that end a script
-abbrev pub phase_forms : List (List (List ℕ) → Option Line)
-phase_forms = start_form ∷ forward_form ∷ stop_form ∷ quit_form ∷ []
+-- what the words behind a command say
+abbrev pub said_by : Command → List (List ℕ) → Option Line
+said_by command.Flow words = flow_line words
+said_by command.Start words = at_end words (lines.Start None)
+said_by command.Forward words = forward_line words
+said_by command.Stop words = at_end words lines.Stop
+said_by command.Quit words = at_end words lines.Quit

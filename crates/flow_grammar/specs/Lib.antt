@@ -1,4 +1,3 @@
-pub mod Destroys
 pub mod Draft
 pub mod Forms
 pub mod Limits

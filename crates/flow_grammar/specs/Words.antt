@@ -28,18 +28,12 @@ is_printable byte = nat_le 33 byte && nat_le byte 126
 abbrev pub are_printable : List (List ℕ) → Bool
 are_printable words = list_all (list_all is_printable) words
 
--- the words behind these leading ones, where a list begins with them
-abbrev pub behind : List (List ℕ) → List (List ℕ) → Option (List (List ℕ))
-behind [] words = Some words
-behind (leading ∷ others) [] = None
-behind (leading ∷ others) (word ∷ words) = if bytes_eq word leading then behind others words else None
+-- the words behind this one, where a list begins with it
+abbrev pub behind : List ℕ → List (List ℕ) → Option (List (List ℕ))
+behind leading [] = None
+behind leading (word ∷ words) = if bytes_eq word leading then Some words else None
 
--- no word is left
-abbrev pub is_done : Option (List (List ℕ)) → Bool
-is_done None = false
-is_done (Some []) = true
-is_done (Some (word ∷ words)) = false
-
--- a list is just these words
-abbrev pub are_words : List (List ℕ) → List (List ℕ) → Bool
-are_words form words = is_done (behind form words)
+-- a value, where no word is left
+abbrev pub at_end : {X : Type 0} → List (List ℕ) → X → Option X
+at_end [] x = Some x
+at_end (word ∷ words) x = None

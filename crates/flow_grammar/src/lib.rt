@@ -24,12 +24,12 @@
 //!   is a bad call of that phase. Where `quit` or the end of the script meets an open phase, a `stop` closes it.
 //! - A script has at most 65,536 lines and 65,536 calls.
 //!
-//! The model: a line is a list of words, and each form is a reader of such lists; what a line says is what the first
-//! form says that fits. A program is a recursion over the numbered lines, which remembers the phase that is open and
-//! the calls since the last part. `specs/Words` and `Destroys` have parts of a line, `specs/Forms` the forms,
-//! `specs/Line` the reading, `specs/Lines` the lines of a script, `specs/Program` the recursion, and `specs/Limits` the
-//! limits. A new command is one more form in `specs/Forms` and in `forms.rt`, and none of it is a case of the
-//! recursion.
+//! The model: a line is a list of words. Its first word names a command, and the second word of a flow line a verb; what
+//! the words behind them say is a definition by cases, a short one for each. A program is a recursion over the numbered
+//! lines, which remembers the phase that is open and the calls since the last part. `specs/Words` has the words of a line,
+//! `specs/Forms` the commands and verbs, `specs/Line` the reading, `specs/Lines` the lines of a script, `specs/Program` the
+//! recursion, `specs/Calls` its calls by caller, and `specs/Limits` the limits. A new form is a row of the verbs and a case
+//! of `asked`, in `specs/Forms` and in `verbs.rt`, and none of it is a case of the recursion.
 //!
 //! The plain way is to do as the definitions say: make the list of all words of all lines, then all meanings, then walk
 //! over them. Here each line is read when its turn comes, from left to right, and goes into a draft of the program. The
@@ -42,7 +42,6 @@
 #![tactic(auto)]
 
 mod call_list;
-mod destroys;
 mod draft;
 mod forms;
 mod line;
@@ -53,6 +52,7 @@ mod program_fault;
 mod script;
 #[cfg(test)]
 mod shown;
+mod verbs;
 mod words;
 
 pub use call_list::CallList;

@@ -1,12 +1,8 @@
 //! What a line says.
 ghost use Rattle.std.specs.Prelude.{◌≡◌, IfOk, map};
-ghost use Rattle.flow_grammar.specs.Forms.{flow_forms};
-ghost use Rattle.flow_grammar.specs.Line.{first_said, line_of, line_of_words};
+ghost use Rattle.flow_grammar.specs.Line.{line_of, line_of_words};
 
-use crate::forms::{
-    create_form, destroy_form, flush_form, forward_form, isolate_form, list_form, quit_form,
-    start_form, stop_form, validate_form,
-};
+use crate::forms::{command_of, read_command};
 use crate::op_list::OpList;
 use crate::words::{are_printable, words_of};
 use adapter::BadKind;
@@ -45,47 +41,16 @@ pub fn read_line(alloc: Global, line: &[u8]) -> Result<Line, AllocError>
 fn read_words(alloc: Global, words: &[&[u8]]) -> Result<Line, AllocError>
     ensures { IfOk result (λ said. said ≡ line_of_words (map (λ word. word.now) words.now)) }
 {
-    if words.is_empty() {
+    let Some((word, rest)) = words.split_first() else {
         return Ok(Line::Blank);
+    };
+    let Some(command) = command_of(word) else {
+        return Ok(Line::Bad(BadKind::Arguments));
+    };
+    match read_command(alloc, command, rest)? {
+        Some(said) => Ok(said),
+        None => Ok(Line::Bad(BadKind::Arguments)),
     }
-    if let Some(said) = flow_form(alloc, words)? {
-        return Ok(said);
-    }
-    if let Some(said) = start_form(words) {
-        return Ok(said);
-    }
-    if let Some(said) = forward_form(words) {
-        return Ok(said);
-    }
-    if let Some(said) = stop_form(words) {
-        return Ok(said);
-    }
-    if let Some(said) = quit_form(words) {
-        return Ok(said);
-    }
-    Ok(Line::Bad(BadKind::Arguments))
-}
-
-/// What a flow line of these words says, if it fits a form.
-fn flow_form(alloc: Global, words: &[&[u8]]) -> Result<Option<Line>, AllocError>
-    ensures { IfOk result (λ said. said ≡ first_said flow_forms (map (λ word. word.now) words.now)) }
-{
-    if let Some(said) = validate_form(alloc, words)? {
-        return Ok(Some(said));
-    }
-    if let Some(said) = create_form(alloc, words)? {
-        return Ok(Some(said));
-    }
-    if let Some(said) = destroy_form(alloc, words)? {
-        return Ok(Some(said));
-    }
-    if let Some(said) = flush_form(alloc, words)? {
-        return Ok(Some(said));
-    }
-    if let Some(said) = list_form(alloc, words)? {
-        return Ok(Some(said));
-    }
-    isolate_form(alloc, words)
 }
 
 #[cfg(test)]

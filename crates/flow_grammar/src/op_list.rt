@@ -1,14 +1,11 @@
 //! What one line asks for.
-ghost use Rattle.std.specs.Prelude.{◌≡◌, ◌<◌, ◌≤◌, List, [], ◌∷◌, ◌++◌, length, slice_get, not, nat_lt, IfOk, OnOk};
+ghost use Rattle.std.specs.Prelude.{◌≡◌, ◌<◌, ◌≤◌, List, [], ◌∷◌, ◌++◌, length, slice_get, IfOk, OnOk};
 
 use adapter::Op;
 use std::alloc::{AllocError, Global};
 use std::marker::Model;
 
-/// The most ops of a line: it asks for one, or for one of each id that it lists, and lists no more ids than these.
-pub(crate) const MOST_OPS: usize = 64;
-
-/// The ops that one line asks for, in order.
+/// The ops that one line asks for, in order: one, or one of each id that it lists, which are at most 64.
 #[derive(Drop)]
 pub struct OpList {
     ops: Vec<Op>,
@@ -17,13 +14,12 @@ pub struct OpList {
 impl Model for OpList {
     ghost use Rattle.std.specs.Prelude.{◌≤◌, List, length};
     ghost use Rattle.adapter.specs.declared.call.Op.{Op};
-    ghost use Rattle.flow_grammar.specs.declared.op_list.TheConstants.{MOST_OPS};
 
     ghost Value = { List Op };
 
     ghost view = { λ list. list.ops.items };
 
-    ghost invariant = { λ list. length list.ops.items ≤ MOST_OPS };
+    ghost invariant = { λ list. length list.ops.items ≤ 64 };
 }
 
 impl OpList {
@@ -36,16 +32,9 @@ impl OpList {
         }
     }
 
-    /// Whether there are as many ops as a line may ask for.
-    pub(crate) fn is_full(&self) -> bool
-        ensures { result ≡ not (nat_lt (length self.now) MOST_OPS) }
-    {
-        self.ops.len() >= MOST_OPS
-    }
-
     /// Puts an op behind the others.
     pub(crate) fn push(&mut self, op: Op) -> Result<(), AllocError>
-        requires { length self.old < MOST_OPS }
+        requires { length self.old < 64 }
         ensures { OnOk result (self.new ≡ self.old ++ op ∷ []) }
     {
         self.ops.push(op)?;
@@ -64,7 +53,7 @@ impl OpList {
     /// How many ops there are.
     pub fn len(&self) -> usize
         ensures value { result ≡ length self.now }
-        ensures few { result ≤ MOST_OPS }
+        ensures few { result ≤ 64 }
     {
         self.ops.len()
     }
@@ -80,7 +69,7 @@ impl OpList {
     /// All ops.
     pub fn as_slice(&self) -> &[Op]
         ensures value { result.now ≡ self.now }
-        ensures few { length self.now ≤ MOST_OPS }
+        ensures few { length self.now ≤ 64 }
     {
         self.ops.as_slice()
     }

@@ -44,28 +44,14 @@ fn is_printable(word: &[u8]) -> bool
     word.iter().all(|byte| 33 <= *byte && *byte <= 126)
 }
 
-/// The words behind these leading ones, where a list begins with them.
-pub(crate) fn behind<'w, 'a>(leading: &[&[u8]], words: &'w [&'a [u8]]) -> Option<&'w [&'a [u8]]>
+/// The words behind this one, where a list begins with it.
+pub(crate) fn behind<'w, 'a>(leading: &[u8], words: &'w [&'a [u8]]) -> Option<&'w [&'a [u8]]>
     ensures { option_map (λ rest. map (λ word. word.now) rest.now) result
-        ≡ spec.behind (map (λ word. word.now) leading.now) (map (λ word. word.now) words.entry.now) }
+        ≡ spec.behind leading.now (map (λ word. word.now) words.entry.now) }
 {
-    let Some((first, others)) = leading.split_first() else {
-        return Some(words);
-    };
     let (word, rest) = words.split_first()?;
-    if *word != *first {
+    if *word != leading {
         return None;
     }
-    behind(others, rest)
-}
-
-/// Whether a list is just these words.
-pub(crate) fn are_words(form: &[&[u8]], words: &[&[u8]]) -> bool
-    ensures { result
-        ≡ spec.are_words (map (λ word. word.now) form.now) (map (λ word. word.now) words.now) }
-{
-    match behind(form, words) {
-        Some(rest) => rest.is_empty(),
-        None => false,
-    }
+    Some(rest)
 }
