@@ -1,5 +1,8 @@
 pub mod Prefixes
-pub mod LegalSerial
-pub mod WholeSerial
-pub mod Statuses
+pub mod Reading
+pub mod Passing
+pub mod PartsRun
+pub mod Asking
 pub mod ScriptSize
+pub mod Running
+pub mod Statuses

@@ -1,8 +1,9 @@
 pub mod Options
-pub mod Serial
-pub mod Feed
-pub mod Run
 pub mod Status
-pub mod Due
+pub mod Run
+pub mod Found
 pub mod Session
+pub mod Feed
+pub mod Phase
+pub mod Parts
 pub mod Fetch

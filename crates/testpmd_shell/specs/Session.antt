@@ -4,18 +4,23 @@ use Rattle.std.specs.Io.KnownBytes.{Appends}
 use Rattle.io_edges.specs.declared.shelf.Slot.TheVariants as slots
 use Rattle.io_edges.specs.ShelfState.{ShelfState, read_faults}
 use Rattle.io_edges.specs.Front.{TakesFront}
+use Rattle.capture_files.specs.Record.{Frame}
+use Rattle.flow_rules.specs.declared.limits.Limits.{Limits}
+use Rattle.adapter.specs.declared.entry.Entry.{Entry}
 use Rattle.adapter.specs.History.{IsLegal}
+use Rattle.flow_grammar.specs.declared.part.Part.{Part}
 use Rattle.flow_grammar.specs.Program.{program_of}
-use Rattle.flow_grammar.specs.Reach.{has_phase}
-use Rattle.flow_grammar.specs.Whole.{IsWhole}
-use Rattle.history_text.specs.declared.ending.Ending.TheVariants as endings
+use Rattle.whole_history.specs.Reach.{has_phase}
+use Rattle.whole_history.specs.Whole.{IsWhole}
+use Rattle.whole_history.specs.Serial.{serial}
 use Rattle.history_text.specs.Text.{text_of}
 use Rattle.testpmd_shell.specs.declared.status.Status.{Status}
 use Rattle.testpmd_shell.specs.declared.status.Status.TheVariants as status
-use Rattle.testpmd_shell.specs.declared.fetch.Stopped.{Stopped}
-use Rattle.testpmd_shell.specs.declared.fetch.Stopped.TheVariants as stopped
-use Rattle.testpmd_shell.specs.Options.{Given}
-use Rattle.testpmd_shell.specs.Due.{Files, files_of, limits_of, history_of, is_over, due_status}
+use Rattle.testpmd_shell.specs.Options.{Given, options_of}
+use Rattle.testpmd_shell.specs.Run.{Edges, Run, early_faults}
+use Rattle.testpmd_shell.specs.Found.{Found, found_in, limits_of, is_over, asks_for_more, ending_of, status_at, due_status}
+
+-- ---- before the call
 
 -- Nothing was asked for on the shelf, and no count of its faults stands at its last value.
 pub record IsFresh (state : ShelfState) : Type 0 where
@@ -34,68 +39,112 @@ abbrev pub Allows : Option Given → ShelfState → Type 0
 Allows None state = ⊤
 Allows (Some given) state = IsTrue (state.allows_read slots.Script given.script) × AllowsCapture given.capture state
 
--- Why no history came: a read fault where the count of read faults rose, and else what the files owe.
-abbrev pub IsStoppedBy : Option Files → ShelfState → ShelfState → Stopped → Type 0
-IsStoppedBy files old new stopped.ReadFault = read_faults old < read_faults new
-IsStoppedBy files old new stopped.BadCapture = (read_faults new ≡ read_faults old) × IfSome files (λ f. due_status f ≡ status.BadCapture)
-IsStoppedBy files old new stopped.TooLarge = (read_faults new ≡ read_faults old) × IfSome files (λ f. due_status f ≡ status.TooLarge)
-IsStoppedBy files old new stopped.NoMemory = read_faults new ≡ read_faults old
+-- ---- which histories a session may print, for its limits, its program and the frames of its capture
 
--- The printed history is legal and whole for the program of the script, the frames of the capture and one worker.
-pub record IsHeadline (given : Given) (files : Files) (old new : Option (List ℕ)) : Type 0 where
-  pub legal : IsLegal (limits_of given) (history_of given files)
-  pub whole : IsWhole 1 (program_of files.script) 1 files.capture.frames (history_of given files)
-  pub printed : Appends old new (text_of (limits_of given) (history_of given files) endings.Whole)
+-- the serial history
+abbrev pub IsSerial : Limits → List Part → List Frame → List Entry → Type 0
+IsSerial limits program frames history = history ≡ serial limits program frames
 
--- The status, its cause, and what was written, by what the options name.
--- `old` and `new` are what the sink has taken, `before` and `now` its count of faults.
-abbrev pub Says : Given → Option Files → ShelfState → ShelfState → Option (List ℕ) → Option (List ℕ) → ℕ → ℕ → Status → Type 0
-Says given files s t old new before now status.Done = (read_faults t ≡ read_faults s) × (now ≡ before)
-    × IfSome files (λ f. (due_status f ≡ status.Done) × IsHeadline given f old new)
-Says given files s t old new before now status.Usage = ⊥
-Says given files s t old new before now status.ReadFault = (read_faults s < read_faults t) × (now ≡ before) × (new ≡ old)
-Says given files s t old new before now status.WriteFault = (read_faults t ≡ read_faults s) × (before < now)
-    × IfSome files (λ f. (due_status f ≡ status.Done) × (sent : ℕ) × TakesFront old new (text_of (limits_of given) (history_of given f) endings.Whole) sent)
-Says given files s t old new before now status.BadCapture = (read_faults t ≡ read_faults s) × (now ≡ before) × (new ≡ old)
-    × IfSome files (λ f. due_status f ≡ status.BadCapture)
-Says given files s t old new before now status.TooLarge = (read_faults t ≡ read_faults s) × (now ≡ before) × (new ≡ old)
-    × IfSome files (λ f. due_status f ≡ status.TooLarge)
-Says given files s t old new before now status.NoMemory = (read_faults t ≡ read_faults s) × (now ≡ before) × (new ≡ old)
+-- a legal history that is whole with one worker
+abbrev pub IsLegalAndWhole : Limits → List Part → List Frame → List Entry → Type 0
+IsLegalAndWhole limits program frames history = IsLegal limits history × IsWhole 1 program 1 frames history
 
--- the status where the words give no options: nothing was opened, read or written
-abbrev pub SaysAll : Option Given → ShelfState → ShelfState → Option (List ℕ) → Option (List ℕ) → ℕ → ℕ → Status → Type 0
-SaysAll None s t old new before now answer = (answer ≡ status.Usage) × (t ≡ s) × (new ≡ old) × (now ≡ before)
-SaysAll (Some given) s t old new before now answer = Says given (files_of given s.contents) s t old new before now answer
+-- ---- a run that came to its end
 
--- Where no call failed, and the bytes are told, the status is the one that the files owe, or there was no memory.
-abbrev pub Completes : Option Files → ShelfState → ShelfState → ℕ → ℕ → Status → Type 0
-Completes files s t before now answer = read_faults t ≡ read_faults s → now ≡ before → IfSome files (λ f. (answer ≡ status.NoMemory) ⊎ (answer ≡ due_status f))
+-- The counts of faults by which a status comes: a read of the capture failed at ReadFault, a write at WriteFault.
+abbrev pub IsEndOf : Edges → Edges → Status → Type 0
+IsEndOf before after status.Done = (after.shelf.capture.faults ≡ before.shelf.capture.faults) × (after.faults ≡ before.faults)
+IsEndOf before after status.Usage = ⊥
+IsEndOf before after status.ReadFault = (before.shelf.capture.faults < after.shelf.capture.faults) × (after.faults ≡ before.faults)
+IsEndOf before after status.WriteFault = before.faults < after.faults
+IsEndOf before after status.BadCapture = (after.shelf.capture.faults ≡ before.shelf.capture.faults) × (after.faults ≡ before.faults)
+IsEndOf before after status.TooLarge = (after.shelf.capture.faults ≡ before.shelf.capture.faults) × (after.faults ≡ before.faults)
+IsEndOf before after status.NoMemory = ⊥
 
-abbrev pub CompletesAll : Option Given → ShelfState → ShelfState → ℕ → ℕ → Status → Type 0
-CompletesAll None s t before now answer = ⊤
-CompletesAll (Some given) s t before now answer = Completes (files_of given s.contents) s t before now answer
+-- what the sink took of a text: a front of it at WriteFault, and else all of it
+abbrev pub Wrote : Edges → Edges → List ℕ → Status → Type 0
+Wrote before after text status.WriteFault = (sent : ℕ) × TakesFront before.taken after.taken text sent
+Wrote before after text other = Appends before.taken after.taken text
+
+-- the status is that of the capture's ending, unless a write failed
+abbrev pub IsStatusOf : Found → Status → Type 0
+IsStatusOf found status.WriteFault = ⊤
+IsStatusOf found other = other ≡ status_at (ending_of found)
+
+-- The transcript of such a history was written. A read of the capture failed only where a phase asked for it.
+pub record Tells (histories : Limits → List Part → List Frame → List Entry → Type 0) (given : Given) (found : Found) (before after : Edges) (answer : Status) : Type 0 where
+  pub history : List Entry
+  pub is : histories (limits_of given) (program_of found.script) found.capture.frames history
+  pub written : Wrote before after (text_of (limits_of given) history (ending_of found)) answer
+  pub due : IsStatusOf found answer
+  pub asked : before.shelf.capture.faults < after.shelf.capture.faults → asks_for_more found ≡ true
+
+-- No opening to read and no read of the script failed, the script is within its limits, and its run came to its end.
+pub record Ends (histories : Limits → List Part → List Frame → List Entry → Type 0) (given : Given) (before after : Edges) (answer : Status) : Type 0 where
+  pub calm : early_faults after.shelf ≡ early_faults before.shelf
+  pub within : IfSome (before.shelf.contents given.script) (λ script. is_over script ≡ false)
+  pub cause : IsEndOf before after answer
+  pub tells : IfSome (found_in given before.shelf after.shelf) (λ found. Tells histories given found before after answer)
+
+-- ---- a run that stopped in front of its transcript
+
+-- An opening to read or a read of the script failed; the script is over its limits; or there was no memory.
+abbrev pub IsWhy : Given → ShelfState → ShelfState → Status → Type 0
+IsWhy given s t status.Done = ⊥
+IsWhy given s t status.Usage = ⊥
+IsWhy given s t status.ReadFault = (early_faults s < early_faults t) × (t.capture.faults ≡ s.capture.faults)
+IsWhy given s t status.WriteFault = ⊥
+IsWhy given s t status.BadCapture = ⊥
+IsWhy given s t status.TooLarge = (read_faults t ≡ read_faults s) × IfSome (s.contents given.script) (λ script. is_over script ≡ true)
+IsWhy given s t status.NoMemory = early_faults t ≡ early_faults s
+
+-- a script that is told to be over its limits is told so before the capture is asked for
+abbrev pub IsSizedFirst : Given → ShelfState → ShelfState → Type 0
+IsSizedFirst given s t = IfSome (s.contents given.script) (λ script. is_over script ≡ true → t.capture ≡ s.capture)
+
+-- Nothing was written.
+pub record Stops (given : Given) (before after : Edges) (answer : Status) : Type 0 where
+  pub unwritten : after.taken ≡ before.taken
+  pub calm : after.faults ≡ before.faults
+  pub why : IsWhy given before.shelf after.shelf answer
+  pub sized : IsSizedFirst given before.shelf after.shelf
+
+-- ---- all answers
+
+-- where the words give no options nothing is opened, read or written
+abbrev pub SaysBy : (Limits → List Part → List Frame → List Entry → Type 0) → Option Given → Edges → Edges → Status → Type 0
+SaysBy histories None before after answer = (answer ≡ status.Usage) × (after ≡ before)
+SaysBy histories (Some given) before after answer = Ends histories given before after answer ⊎ Stops given before after answer
+
+-- what an answer says of a run
+abbrev pub Says : (Limits → List Part → List Frame → List Entry → Type 0) → Run → Status → Type 0
+Says histories run answer = SaysBy histories (options_of run.words) run.before run.after answer
+
+-- ---- what follows
+
+abbrev pub CompletesBy : Option Given → Edges → Edges → Status → Type 0
+CompletesBy None before after answer = ⊤
+CompletesBy (Some given) before after answer = read_faults after.shelf ≡ read_faults before.shelf → after.faults ≡ before.faults
+    → IfSome (found_in given before.shelf after.shelf) (λ found. (answer ≡ status.NoMemory) ⊎ (answer ≡ due_status found))
+
+-- where no call failed, and the bytes are told, the status is the one that the files owe, or there was no memory
+abbrev pub Completes : Run → Status → Type 0
+Completes run answer = CompletesBy (options_of run.words) run.before run.after answer
+
+abbrev pub IsReadBy : Option Given → ShelfState → ShelfState → Type 0
+IsReadBy None s t = ⊤
+IsReadBy (Some given) s t = IfSome (s.contents given.script) (λ script. has_phase (program_of script) ≡ false → t.capture.faults ≡ s.capture.faults)
 
 -- a failed read of the capture comes only where the script has a phase
-abbrev pub IsReadByPhases : Option Given → ShelfState → ShelfState → Type 0
-IsReadByPhases None s t = ⊤
-IsReadByPhases (Some given) s t = IfSome (s.contents given.script) (λ script. has_phase (program_of script) ≡ false → t.capture.faults ≡ s.capture.faults)
+abbrev pub IsReadByPhases : Run → Type 0
+IsReadByPhases run = IsReadBy (options_of run.words) run.before.shelf run.after.shelf
 
--- The script's size decides by itself: it is over its limits at TooLarge, and within them where the run came behind it.
-abbrev pub SizeTells : List ℕ → Status → Type 0
-SizeTells script status.TooLarge = is_over script ≡ true
-SizeTells script status.Done = is_over script ≡ false
-SizeTells script status.WriteFault = is_over script ≡ false
-SizeTells script status.BadCapture = is_over script ≡ false
-SizeTells script status.Usage = ⊤
-SizeTells script status.ReadFault = ⊤
-SizeTells script status.NoMemory = ⊤
+abbrev pub IsTooLargeBy : Option Given → ShelfState → ShelfState → Status → Type 0
+IsTooLargeBy None s t answer = ⊤
+IsTooLargeBy (Some given) s t answer = IfSome (s.contents given.script) (λ script. is_over script ≡ true
+    → (t.capture ≡ s.capture) × (early_faults t ≡ early_faults s → (answer ≡ status.NoMemory) ⊎ (answer ≡ status.TooLarge)))
 
-abbrev pub IsSizedBy : Option Given → ShelfState → Status → Type 0
-IsSizedBy None s answer = ⊤
-IsSizedBy (Some given) s answer = IfSome (s.contents given.script) (λ script. SizeTells script answer)
-
-abbrev pub StopSizeTells : List ℕ → Stopped → Type 0
-StopSizeTells script stopped.TooLarge = is_over script ≡ true
-StopSizeTells script stopped.BadCapture = is_over script ≡ false
-StopSizeTells script stopped.ReadFault = ⊤
-StopSizeTells script stopped.NoMemory = ⊤
+-- With a script that is told to be over its limits the capture isn't asked for, and the answer is TooLarge, or there was
+-- no memory, unless the opening or a read of the script failed.
+abbrev pub IsTooLargeFirst : Run → Status → Type 0
+IsTooLargeFirst run answer = IsTooLargeBy (options_of run.words) run.before.shelf run.after.shelf answer

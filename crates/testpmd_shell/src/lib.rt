@@ -9,18 +9,22 @@
 //! The definition is naive. The program of the script is a list of sections and phases (`flow_grammar`). The serial history
 //! is the concatenation of what each part adds to the history before it: a section its calls, a phase its opening, the
 //! shell's calls, its frames by worker 0 and its closing, each entry with the reply or verdict that is due at that place
-//! (`specs/Serial`). That history is legal, and it is whole: every call of the program and every frame of its phases stands
-//! in it exactly once, in its caller's order, and nothing else does. Both are proved for all programs and captures.
+//! (`whole_history`). That history is legal, and it is whole: every call of the program and every frame of its phases stands
+//! in it exactly once, in its caller's order, and nothing else does.
 //!
-//! The code runs the parts on an adapter and reads one record at a time where a phase asks for it, into one buffer. It
-//! keeps no frame but its key and length, in the adapter's history, and prints that history at the end.
+//! The code runs the parts on an adapter and reads one record at a time where a phase asks for it, into one buffer
+//! (`src/phase.rt` has the one loop over a phase's frames). It keeps no frame but its key and length, in the adapter's
+//! history, and prints that history at the end. A capture that stops early (bad, too large, a failed read) gives no further
+//! frames, and the script runs on: the transcript is printed, and behind its totals the line of the stop, which is the
+//! status too.
 //!
-//! What `session` and `session_serial` promise stands in `specs/Session`: for each status its cause and what was written,
-//! by the bytes that the shelf tells of its names. `Done` says that what was appended to the sink is the transcript of the
-//! serial history. Where no call failed the status is the one that the files owe (`specs/Due`), or there was no memory.
+//! One record holds what a run saw of its words, its shelf and its sink (`specs/Run`), and one relation says what an answer
+//! means, `Says` in `specs/Session`: for each status its cause and what was written, by the bytes that the shelf tells
+//! (`specs/Found`). [`session_serial`] says it of the serial history, [`session`] of some legal and whole one. Where no call
+//! failed the status is the one that the files owe, or there was no memory.
 //!
 //! The order is: words; opening and reading the script; its size; opening the capture; the run; the transcript. What stops
-//! earlier has written nothing. A capture that no phase reads is never bad.
+//! in front of the run has written nothing. A capture that no phase reads is never bad.
 //!
 //! Not done here: threads (`session` runs the serial order and leaves `rt` and `gate` unused) and the transmit file.
 #![tactic(auto)]
@@ -29,7 +33,8 @@ mod ask;
 mod feed;
 mod fetch;
 mod options;
-mod run;
+mod parts;
+mod phase;
 mod shell;
 mod status;
 mod words;

@@ -1,11 +1,13 @@
 //! A session: from the words to the transcript.
-ghost use Rattle.std.specs.Prelude.{◌≡◌, ◌≤◌, ◌<◌, ◌-◌, ◌^◌, ◌↔◌, map, None, Some, is_some};
+ghost use Rattle.std.specs.Prelude.{◌≡◌, ◌<◌, ◌-◌, ◌^◌, ◌↔◌, map, None, Some};
 ghost use Rattle.testpmd_shell.specs.Options.{options_of, given_of};
-ghost use Rattle.testpmd_shell.specs.Session.{IsFresh, Allows, Says, SaysAll, Completes, CompletesAll, IsReadByPhases, IsSizedBy};
-ghost use Rattle.testpmd_shell.specs.Due.{files_of, limits_of};
+ghost use Rattle.testpmd_shell.specs.Run.{edges_of, run_of};
+ghost use Rattle.testpmd_shell.specs.Session.{IsFresh, Allows, Says, SaysBy, Completes, IsReadByPhases, IsReadBy, IsTooLargeFirst, IsSerial, IsLegalAndWhole};
+ghost use Rattle.testpmd_shell.specs.Fetch.{HasRun, IsTold};
+ghost use Rattle.testpmd_shell.specs.Found.{limits_of, status_at};
 ghost use Rattle.adapter.specs.Sound.{AreLimits};
 
-use crate::fetch::{Stopped, fetch};
+use crate::fetch::{Ran, Stopped, fetch};
 use crate::options::Options;
 use crate::status::Status;
 use crate::words::options;
@@ -15,7 +17,7 @@ use std::alloc::Global;
 use std::sync::Wait;
 use std::thread::Threads;
 
-/// Runs a session in the serial order: in each phase the shell's calls, and then the frames by worker 0.
+/// Runs a session in the serial order: in each phase the shell's calls, then the agents', and then the frames by worker 0.
 ///
 /// It waits for nobody, and opens no name but those that the words give, each once.
 pub fn session_serial<S: Shelf, K: Sink>(
@@ -31,15 +33,18 @@ pub fn session_serial<S: Shelf, K: Sink>(
     ensures usage { (result ≡ Status.Usage) ↔ (options_of (map (λ w. w.now) words.now) ≡ None) }
 
     // each status with its cause, and what was written
-    ensures says { SaysAll (options_of (map (λ w. w.now) words.now)) (S.state shelf.old) (S.state shelf.new)
-        (K.taken out.old) (K.taken out.new) (K.faults out.old) (K.faults out.new) result }
+    ensures says { Says IsSerial (run_of (map (λ w. w.now) words.now)
+        (edges_of S.state K.taken K.faults shelf.old out.old) (edges_of S.state K.taken K.faults shelf.new out.new)) result }
 
     // with no failed call the status is the one that the files owe, or there was no memory
-    ensures complete { CompletesAll (options_of (map (λ w. w.now) words.now)) (S.state shelf.old) (S.state shelf.new) (K.faults out.old) (K.faults out.new) result }
-    ensures reads { IsReadByPhases (options_of (map (λ w. w.now) words.now)) (S.state shelf.old) (S.state shelf.new) }
+    ensures complete { Completes (run_of (map (λ w. w.now) words.now)
+        (edges_of S.state K.taken K.faults shelf.old out.old) (edges_of S.state K.taken K.faults shelf.new out.new)) result }
+    ensures reads { IsReadByPhases (run_of (map (λ w. w.now) words.now)
+        (edges_of S.state K.taken K.faults shelf.old out.old) (edges_of S.state K.taken K.faults shelf.new out.new)) }
 
-    // the script's size decides by itself
-    ensures size { IsSizedBy (options_of (map (λ w. w.now) words.now)) (S.state shelf.old) result }
+    // the script's size is told before the capture is asked for
+    ensures large { IsTooLargeFirst (run_of (map (λ w. w.now) words.now)
+        (edges_of S.state K.taken K.faults shelf.old out.old) (edges_of S.state K.taken K.faults shelf.new out.new)) result }
 {
     let Some(options) = options(words) else {
         return Status::Usage;
@@ -65,15 +70,18 @@ pub fn session<R: Threads + Wait + Sync, S: Shelf + Send, K: Sink, G: Gate + Syn
     ensures usage { (result ≡ Status.Usage) ↔ (options_of (map (λ w. w.now) words.now) ≡ None) }
 
     // each status with its cause, and what was written
-    ensures says { SaysAll (options_of (map (λ w. w.now) words.now)) (S.state shelf.old) (S.state shelf.new)
-        (K.taken out.old) (K.taken out.new) (K.faults out.old) (K.faults out.new) result }
+    ensures says { Says IsLegalAndWhole (run_of (map (λ w. w.now) words.now)
+        (edges_of S.state K.taken K.faults shelf.old out.old) (edges_of S.state K.taken K.faults shelf.new out.new)) result }
 
     // with no failed call the status is the one that the files owe, or there was no memory
-    ensures complete { CompletesAll (options_of (map (λ w. w.now) words.now)) (S.state shelf.old) (S.state shelf.new) (K.faults out.old) (K.faults out.new) result }
-    ensures reads { IsReadByPhases (options_of (map (λ w. w.now) words.now)) (S.state shelf.old) (S.state shelf.new) }
+    ensures complete { Completes (run_of (map (λ w. w.now) words.now)
+        (edges_of S.state K.taken K.faults shelf.old out.old) (edges_of S.state K.taken K.faults shelf.new out.new)) result }
+    ensures reads { IsReadByPhases (run_of (map (λ w. w.now) words.now)
+        (edges_of S.state K.taken K.faults shelf.old out.old) (edges_of S.state K.taken K.faults shelf.new out.new)) }
 
-    // the script's size decides by itself
-    ensures size { IsSizedBy (options_of (map (λ w. w.now) words.now)) (S.state shelf.old) result }
+    // the script's size is told before the capture is asked for
+    ensures large { IsTooLargeFirst (run_of (map (λ w. w.now) words.now)
+        (edges_of S.state K.taken K.faults shelf.old out.old) (edges_of S.state K.taken K.faults shelf.new out.new)) result }
 {
     session_serial(alloc, words, shelf, out)
 }
@@ -89,20 +97,38 @@ fn answer<S: Shelf, K: Sink>(
     requires sink { K.faults out.old < 2 ^ 64 - 1 }
     requires allowed { Allows (Some (given_of options.now)) (S.state shelf.old) }
     requires limits { AreLimits (limits_of (given_of options.now)) }
-    ensures says { Says (given_of options.now) (files_of (given_of options.now) (S.state shelf.old).contents) (S.state shelf.old) (S.state shelf.new)
-        (K.taken out.old) (K.taken out.new) (K.faults out.old) (K.faults out.new) result }
-    ensures reads { IsReadByPhases (Some (given_of options.now)) (S.state shelf.old) (S.state shelf.new) }
-    ensures size { IsSizedBy (Some (given_of options.now)) (S.state shelf.old) result }
+    ensures says { SaysBy IsSerial (Some (given_of options.now))
+        (edges_of S.state K.taken K.faults shelf.old out.old) (edges_of S.state K.taken K.faults shelf.new out.new) result }
+    ensures reads { IsReadBy (Some (given_of options.now)) (S.state shelf.old) (S.state shelf.new) }
 {
     match fetch(alloc, options, shelf) {
-        Ok(adapter) => match print_history(&adapter, Ending::Whole, out) {
-            Ok(()) => Status::Done,
-            Err(_) => Status::WriteFault,
-        },
+        Ok(ran) => tell(&ran, out),
         Err(Stopped::ReadFault) => Status::ReadFault,
-        Err(Stopped::BadCapture) => Status::BadCapture,
         Err(Stopped::TooLarge) => Status::TooLarge,
         Err(Stopped::NoMemory) => Status::NoMemory,
+    }
+}
+
+/// Writes the transcript of a script that was run.
+fn tell<K: Sink>(ran: &Ran, out: &mut K) -> Status
+    requires sink { K.faults out.old < 2 ^ 64 - 1 }
+    ensures { IsTold ran.now.adapter ran.now.ending (K.taken out.old) (K.taken out.new) (K.faults out.old) (K.faults out.new) result }
+{
+    match print_history(&ran.adapter, ran.ending, out) {
+        Ok(()) => status_of(ran.ending),
+        Err(_) => Status::WriteFault,
+    }
+}
+
+/// The status where the transcript was written.
+fn status_of(ending: Ending) -> Status
+    ensures { result ≡ status_at ending }
+{
+    match ending {
+        Ending::Whole => Status::Done,
+        Ending::Bad { .. } => Status::BadCapture,
+        Ending::Large { .. } => Status::TooLarge,
+        Ending::ReadFault => Status::ReadFault,
     }
 }
 

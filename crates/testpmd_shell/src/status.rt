@@ -9,13 +9,13 @@ pub enum Status {
     Done,
     /// The words give no options.
     Usage,
-    /// An opening to read, or a read, failed.
+    /// An opening to read, or a read of the script or of the capture, failed.
     ReadFault,
     /// A write failed.
     WriteFault,
     /// A phase asked for a frame, and the capture was bad there.
     BadCapture,
-    /// The script is over its limit.
+    /// The script is over its limits, or a phase asked for a frame past those of a capture.
     TooLarge,
     NoMemory,
 }

@@ -4,7 +4,7 @@ ghost use Rattle.std.specs.Option.{option_map};
 ghost use Rattle.std.specs.List.{list_all};
 ghost use Rattle.testpmd_shell.specs.Options.{value_of, values_of, at_most_one, is_known, is_digit, digits_value, is_number, number_or, queues_of, flow_max_of, options_of, given_of};
 ghost use Rattle.adapter.specs.Sound.{AreLimits};
-ghost use Rattle.testpmd_shell.specs.Due.{limits_of};
+ghost use Rattle.testpmd_shell.specs.Found.{limits_of};
 
 use crate::options::Options;
 
@@ -17,10 +17,10 @@ const QUEUES: &str = "--rxq=";
 const RULES: &str = "--flow-max=";
 
 /// The most Rx queues.
-const MOST_QUEUES: u32 = 16;
+const MAX_QUEUES: u32 = 16;
 
 /// The most rules that may be in effect, and how many may be where the words don't say.
-const MOST_RULES: u32 = 65_536;
+const MAX_RULES: u32 = 65_536;
 
 const USUAL_RULES: u32 = 4_096;
 
@@ -143,7 +143,7 @@ fn queues(text: Option<&str>) -> Option<u8>
     ensures number { result ≡ queues_of (option_copied text.entry) }
     ensures range { IfSome result (λ rxq. (1 ≤ rxq) × (rxq ≤ 16)) }
 {
-    let number = number_or(1, MOST_QUEUES, text)?;
+    let number = number_or(1, MAX_QUEUES, text)?;
     Some(number as u8)
 }
 
@@ -152,7 +152,7 @@ fn rules(text: Option<&str>) -> Option<u32>
     ensures number { result ≡ flow_max_of (option_copied text.entry) }
     ensures range { IfSome result (λ n. (1 ≤ n) × (n ≤ 65536)) }
 {
-    number_or(USUAL_RULES, MOST_RULES, text)
+    number_or(USUAL_RULES, MAX_RULES, text)
 }
 
 /// The options that the words give, if they give any.

@@ -1,3 +1,4 @@
 pub mod LegalSerial
 pub mod Telling
 pub mod WholeSerial
+pub mod Extending

@@ -2,8 +2,12 @@ mod patterns;
 mod phases;
 mod rules;
 
+ghost use Rattle.std.specs.Prelude.{◌≡◌, IfOk};
+ghost use Rattle.io_edges.specs.MemShelfState.{shelf_state};
+ghost use Rattle.testpmd_shell.specs.Session.{IsFresh};
+
 use super::*;
-use io_edges::{FaultPlan, MemShelf, MemSink};
+use io_edges::{FaultPlan, MemShelf, MemSink, OpenGate};
 use std::alloc::{AllocError, Global};
 use std::process::Abort;
 
@@ -54,8 +58,10 @@ impl<'a> Case<'a> {
         }
     }
 
-    /// The status, and what was written.
-    fn run(&self, alloc: Global) -> Result<(Status, Vec<u8>), AllocError> {
+    /// A shelf with its files, and a sink.
+    fn edges(&self, alloc: Global) -> Result<(MemShelf, MemSink), AllocError>
+        ensures { IfOk result (λ edges. IsFresh (shelf_state edges.0) × (edges.1.faults ≡ 0)) }
+    {
         let mut files = Vec::new(alloc);
         files.push((
             String::from_str(alloc, "script")?,
@@ -75,16 +81,51 @@ impl<'a> Case<'a> {
             capture_at: self.capture_at,
             tx_at: None,
         };
-        let mut shelf = MemShelf::new(alloc, files, 0, plan)?;
-        let mut out = MemSink::new(alloc, 4096, self.out_at)?;
+        let shelf = MemShelf::new(alloc, files, 0, plan)?;
+        let out = MemSink::new(alloc, 4096, self.out_at)?;
+        Ok((shelf, out))
+    }
+
+    /// The status, and what was written, in the serial order.
+    fn run_serial(&self, alloc: Global) -> Result<(Status, Vec<u8>), AllocError> {
+        let (mut shelf, mut out) = self.edges(alloc)?;
         let status = session_serial(alloc, self.words, &mut shelf, &mut out);
         let written = Vec::from_slice(alloc, out.taken())?;
         Ok((status, written))
     }
 
-    /// Runs, and compares the status and what was written.
+    /// The status, and what was written.
+    fn run<R: Threads + Wait + Sync>(
+        &self,
+        rt: &R,
+        alloc: Global,
+    ) -> Result<(Status, Vec<u8>), AllocError> {
+        let (mut shelf, mut out) = self.edges(alloc)?;
+        let status = session(rt, alloc, self.words, &mut shelf, &mut out, &OpenGate);
+        let written = Vec::from_slice(alloc, out.taken())?;
+        Ok((status, written))
+    }
+
+    /// Runs in the serial order, and compares the status and what was written.
     fn expect(&self, rt: &impl Abort, alloc: Global, status: Status, written: &[u8], what: &str) {
-        let Ok((found, bytes)) = self.run(alloc) else {
+        let Ok((found, bytes)) = self.run_serial(alloc) else {
+            panic!(rt; "no memory: {what}");
+        };
+        assert!(rt; found == status, "{what}");
+        assert!(rt; bytes.as_slice() == written, "{what}");
+    }
+
+    /// Runs by both calls, and compares their answers.
+    fn expect_both<R: Abort + Threads + Wait + Sync>(
+        &self,
+        rt: &R,
+        alloc: Global,
+        status: Status,
+        written: &[u8],
+        what: &str,
+    ) {
+        self.expect(rt, alloc, status, written, what);
+        let Ok((found, bytes)) = self.run(rt, alloc) else {
             panic!(rt; "no memory: {what}");
         };
         assert!(rt; found == status, "{what}");
@@ -146,7 +187,7 @@ fn one_phase(alloc: Global) -> Result<Vec<u8>, AllocError> {
 
 #[test]
 fn a_script_without_a_capture_prints_totals(rt: HostRuntime) {
-    Case::of(&["--cmdline-file=script"], b"", b"").expect(
+    Case::of(&["--cmdline-file=script"], b"", b"").expect_both(
         &rt,
         rt.alloc(),
         Status::Done,
@@ -178,7 +219,7 @@ fn a_script_without_a_capture_prints_totals(rt: HostRuntime) {
 fn one_rule_takes_one_frame(rt: HostRuntime) -> Result<(), AllocError> {
     let script = one_phase(rt.alloc())?;
     let one = capture(rt.alloc(), &UDP_FRAME, 1)?;
-    Case::of(&TWO_QUEUES, &script, &one).expect(
+    Case::of(&TWO_QUEUES, &script, &one).expect_both(
         &rt,
         rt.alloc(),
         Status::Done,
@@ -207,34 +248,137 @@ fn a_sink_that_fails_has_taken_a_front(rt: HostRuntime) -> Result<(), AllocError
     Ok(())
 }
 
+/// The transcript of the rule and a phase over two frames, up to the capture's line.
+const ONE_RULE_TWO_FRAMES: &str = "shell 1.1: Flow rule #0 created
+shell 2.1: Packet forwarding started
+worker0 #1: queue 1 mark - hash - path 0
+worker0 #2: queue 1 mark - hash - path 0
+shell 3.1: Packet forwarding stopped: received 2 dropped 0 queues 0,2
+total received 2 dropped 0 queues 0,2
+";
+
+/// A transcript with a line behind it.
+fn with_line(alloc: Global, transcript: &str, line: &str) -> Result<Vec<u8>, AllocError> {
+    let mut text = Vec::from_slice(alloc, transcript.as_bytes())?;
+    text.extend_from_slice(line.as_bytes())?;
+    Ok(text)
+}
+
 #[test]
-fn a_capture_that_stops_early_writes_nothing(rt: HostRuntime) -> Result<(), AllocError> {
+fn three_records_cut_to_200_bytes_give_two_frames(rt: HostRuntime) -> Result<(), AllocError> {
     let script = one_phase(rt.alloc())?;
-    let three = capture(rt.alloc(), &UDP_FRAME, 3)?;
     let mut cut = capture(rt.alloc(), &UDP_FRAME, 3)?;
     cut.truncate(200);
-    Case::of(&TWO_QUEUES, &script, &cut).expect(
+    let text = with_line(
+        rt.alloc(),
+        ONE_RULE_TWO_FRAMES,
+        "capture: bad at byte 176: record cut\n",
+    )?;
+    Case::of(&TWO_QUEUES, &script, &cut).expect_both(
         &rt,
         rt.alloc(),
         Status::BadCapture,
-        b"",
+        &text,
         "three records cut",
     );
+    Ok(())
+}
+
+#[test]
+fn a_read_of_the_capture_that_fails_gives_the_frames_before_it(
+    rt: HostRuntime,
+) -> Result<(), AllocError> {
+    let script = one_phase(rt.alloc())?;
+    let three = capture(rt.alloc(), &UDP_FRAME, 3)?;
+    let text = with_line(
+        rt.alloc(),
+        ONE_RULE_TWO_FRAMES,
+        "capture: read fault\n",
+    )?;
     let mut failing = Case::of(&TWO_QUEUES, &script, &three);
     failing.capture_at = Some(176);
-    failing.expect(
+    failing.expect_both(
         &rt,
         rt.alloc(),
         Status::ReadFault,
-        b"",
+        &text,
         "a capture that fails",
     );
-    Case::of(&TWO_QUEUES, b"", &cut).expect(
+    Ok(())
+}
+
+#[test]
+fn the_script_runs_on_behind_a_stop_of_the_capture(rt: HostRuntime) {
+    Case::of(
+        &["--cmdline-file=script", "--rx-pcap=capture"],
+        b"start\nstop\nflow isolate 0 1\nforward 1\n",
+        &FILE_HEADER[..23],
+    )
+    .expect(
+        &rt,
+        rt.alloc(),
+        Status::BadCapture,
+        b"shell 1.1: Packet forwarding started
+shell 2.1: Packet forwarding stopped: received 0 dropped 0 queues 0
+shell 3.1: Ingress traffic is restricted to the defined flow rules
+shell 4.1: Packet forwarding started
+shell 5.1: Packet forwarding stopped: received 0 dropped 0 queues 0
+total received 0 dropped 0 queues 0
+capture: bad at byte 0: header cut
+",
+        "a cut header",
+    );
+}
+
+#[test]
+fn a_header_alone_is_a_capture_and_an_empty_file_is_cut(rt: HostRuntime) -> Result<(), AllocError> {
+    let text = "shell 1.1: Packet forwarding started
+shell 2.1: Packet forwarding stopped: received 0 dropped 0 queues 0
+total received 0 dropped 0 queues 0
+";
+    let words = ["--cmdline-file=script", "--rx-pcap=capture"];
+    Case::of(&words, b"start\nstop", &FILE_HEADER).expect_both(
+        &rt,
+        rt.alloc(),
+        Status::Done,
+        text.as_bytes(),
+        "a capture without records",
+    );
+    let cut = with_line(rt.alloc(), text, "capture: bad at byte 0: header cut\n")?;
+    Case::of(&words, b"start\nstop", b"").expect_both(
+        &rt,
+        rt.alloc(),
+        Status::BadCapture,
+        &cut,
+        "an empty file",
+    );
+    Ok(())
+}
+
+#[test]
+fn a_capture_that_no_phase_reads_is_never_bad(rt: HostRuntime) {
+    Case::of(&TWO_QUEUES, b"", b"no capture").expect(
         &rt,
         rt.alloc(),
         Status::Done,
         b"total received 0 dropped 0 queues 0,0\n",
         "a bad capture that no phase reads",
+    );
+}
+
+#[test]
+fn a_failing_write_is_told_before_the_capture_s_stop(rt: HostRuntime) -> Result<(), AllocError> {
+    let script = one_phase(rt.alloc())?;
+    let mut cut = capture(rt.alloc(), &UDP_FRAME, 3)?;
+    cut.truncate(200);
+    let mut case = Case::of(&TWO_QUEUES, &script, &cut);
+    case.out_at = Some(40);
+    case.expect_both(
+        &rt,
+        rt.alloc(),
+        Status::WriteFault,
+        &ONE_RULE_TWO_FRAMES.as_bytes()[..40],
+        "a cut capture and a failing sink",
     );
     Ok(())
 }
@@ -266,13 +410,20 @@ fn openings_fail_in_turn(rt: HostRuntime) -> Result<(), AllocError> {
 
 #[test]
 fn limits_and_words(rt: HostRuntime) -> Result<(), AllocError> {
-    let large = vec![in rt.alloc(); b'\n'; 1_048_577]?;
-    Case::of(&["--cmdline-file=script"], &large, b"").expect(
+    let comment = vec![in rt.alloc(); b'#'; 1_048_577]?;
+    Case::of(&["--cmdline-file=script"], &comment, b"").expect(
         &rt,
         rt.alloc(),
         Status::TooLarge,
         b"",
-        "a script over its limit",
+        "a comment of a byte too many",
+    );
+    Case::of(&["--cmdline-file=script"], &comment[..1_048_576], b"").expect(
+        &rt,
+        rt.alloc(),
+        Status::Done,
+        b"total received 0 dropped 0 queues 0\n",
+        "the longest comment",
     );
     for words in [
         &["--rxq=17", "--cmdline-file=script"],
@@ -291,18 +442,5 @@ fn limits_and_words(rt: HostRuntime) -> Result<(), AllocError> {
             "words that give no options",
         );
     }
-    let header_alone = Vec::from_slice(rt.alloc(), &FILE_HEADER)?;
-    Case::of(
-        &["--cmdline-file=script", "--rx-pcap=capture"],
-        b"start\nstop",
-        &header_alone,
-    )
-    .expect(
-        &rt,
-        rt.alloc(),
-        Status::Done,
-        b"shell 1.1: Packet forwarding started\nshell 2.1: Packet forwarding stopped: received 0 dropped 0 queues 0\ntotal received 0 dropped 0 queues 0\n",
-        "a capture without records",
-    );
     Ok(())
 }

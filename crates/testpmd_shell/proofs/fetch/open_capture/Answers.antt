@@ -1,32 +1,33 @@
-use Rattle.std.proofs.Common.{◌≡◌, ℕ, ◌+◌, List, Option, None, Some, IfSome, IsSome, refl, sym, ap, subst, arith, option_copied}
+use Rattle.std.proofs.Common.{◌≡◌, ℕ, List, [], Option, None, Some, refl, sym, ap, ◌∙◌, subst, arith, option_copied}
 use Rattle.std.specs.Option.{option_map}
-use Rattle.capture_files.specs.Capture.{capture}
-use Rattle.capture_files.specs.Reader.{ReaderState, opening, told}
+use Rattle.capture_files.specs.Reader.{ReaderState}
 use Rattle.io_edges.specs.ShelfState.{SlotState}
-use Rattle.testpmd_shell.specs.Feed.{due, rest_in}
-use Rattle.testpmd_shell.specs.Due.{capture_of}
+use Rattle.history_text.specs.declared.ending.Ending.TheVariants as endings
+use Rattle.testpmd_shell.specs.Parts.{StartsOver}
+use Rattle.testpmd_shell.proofs.Reading.{HasRead-none}
 use Rattle.testpmd_shell.proofs.fetch.open_capture.Goals as goal
 
--- what is due of a capture that was just opened
-opened_frames : (content left : Option (List ℕ)) (reader : ReaderState) → reader ≡ opening → left ≡ content
-    → IfSome (option_map (λ bytes. rest_in (capture bytes)) content) (λ rest. IsSome left × (due reader (told left) ≡ rest))
-opened_frames None left reader fresh same = tt
-opened_frames (Some bytes) left reader fresh same =
-    subst (λ (l : Option (List ℕ)). IsSome l × (due reader (told l) ≡ rest_in (capture bytes))) (sym same) (refl, ap (λ (r : ReaderState). due r bytes) fresh)
+-- nothing is given out of a slot that was just opened
+nothing : (o : Option (List ℕ)) (gone : List ℕ) → option_map (λ _. []) o ≡ Some gone → gone ≡ []
+nothing None gone e = cc
+nothing (Some x) gone e = cc
 
 pub returns-clause-opened : goal.returns-clause-opened
 returns-clause-opened g c = (
   record {
     room = omega (arith, c.in_ok-buffer.ensures.len, c.in_ok-buffer.buffer.ok.0);
-    numbered = λ _. ap (λ (r : ReaderState). r.progress.frames + 1) (sym c.new.ensures);
+    counted = λ _. ap (λ (r : ReaderState). r.progress.frames) (sym c.new.ensures);
+    going_on = λ _. refl;
   },
   ap (λ (s : SlotState). s.opened) c.in-Ok.ensures.opens,
 )
 
-pub returns-clause-frames : goal.returns-clause-frames
-returns-clause-frames g c =
-    let contents = (g.S.Shelf.state c.args.shelf.now).contents in
+pub returns-clause-starts : goal.returns-clause-starts
+returns-clause-starts g c =
+    let before = g.S.Shelf.state c.args.shelf.now in
     let slot = (g.S.Shelf.state c.open_read.new.self).capture in
-    subst (λ (n : Option (List ℕ)). IfSome (capture_of n contents) (λ rest. IsSome slot.left × (due c.new.result (told slot.left) ≡ rest)))
-    (sym (ap option_copied c.in-Some.is))
-    (opened_frames (contents c.in-Some.name.now) slot.left c.new.result c.new.ensures (ap (λ (s : SlotState). s.left) c.in-Ok.ensures.opens))
+    subst (λ (n : Option (List ℕ)). StartsOver n (Some (record { reader = c.new.result; taken = 0; buffer = c.in_ok-buffer.buffer; ending = endings.Whole })) before (g.S.Shelf.state c.open_read.new.self)) (sym (ap option_copied c.in-Some.is))
+    (refl, refl, ap (λ (r : ReaderState). r.ended) c.new.ensures,
+    (λ content known. HasRead-none _ slot content c.new.ensures
+    (λ gone given. nothing before.capture.given gone (sym (ap (λ (s : SlotState). s.given) c.in-Ok.ensures.opens) ∙ given))
+    (ap (λ (s : SlotState). s.left) c.in-Ok.ensures.opens ∙ known)))

@@ -1,22 +1,12 @@
+use Rattle.std.proofs.Common.{inl}
 use Rattle.testpmd_shell.specs.Options.{given_of}
-use Rattle.testpmd_shell.specs.Due.{files_of}
-use Rattle.testpmd_shell.proofs.Statuses.{IsHeadline-printed, TakesFront-printed}
+use Rattle.testpmd_shell.specs.Run.{edges_of}
+use Rattle.testpmd_shell.proofs.Statuses.{Ends-told}
 use Rattle.testpmd_shell.proofs.shell.answer.Goals as goal
 
-pub returns-in-Ok-print_history-clause-says : goal.returns-in-Ok-print_history-clause-says
-returns-in-Ok-print_history-clause-says g c = (
-  c.in-Ok.ensures.calm,
-  c.in-Ok-print_history.ensures.cause.kept,
-  IsHeadline-printed (given_of c.args.options.now) (files_of (given_of c.args.options.now) (g.S.Shelf.state c.args.shelf.now).contents) c.in-Ok.adapter
-      (g.K.Sink.taken c.args.out.now) (g.K.Sink.taken c.print_history.new.sink)
-      c.in-Ok.ensures.limits c.in-Ok.ensures.history c.in-Ok-print_history.ensures.whole,
-)
-
 pub returns-in-Ok-clause-says : goal.returns-in-Ok-clause-says
-returns-in-Ok-clause-says g c = (
-  c.in-Ok.ensures.calm,
-  c.in-Err.ensures.cause.rose c.requires.sink,
-  TakesFront-printed (given_of c.args.options.now) (files_of (given_of c.args.options.now) (g.S.Shelf.state c.args.shelf.now).contents) c.in-Ok.adapter
-      (g.K.Sink.taken c.args.out.now) (g.K.Sink.taken c.print_history.new.sink) c.in-Err.field-0.sent
-      c.in-Ok.ensures.limits c.in-Ok.ensures.history c.in-Err.ensures.front,
-)
+returns-in-Ok-clause-says g c =
+    inl (Ends-told (given_of c.args.options.now)
+    (edges_of g.S.Shelf.state g.K.Sink.taken g.K.Sink.faults c.args.shelf.now c.args.out.now)
+    (edges_of g.S.Shelf.state g.K.Sink.taken g.K.Sink.faults c.fetch.new.shelf c.tell.new.out)
+    c.in-Ok.ran.adapter c.in-Ok.ran.ending c.tell.result c.requires.fresh.capture_reads c.in-Ok.ensures.ran c.tell.ensures)

@@ -1,0 +1,253 @@
+-- A part of a program, and all of them, out of what is asked and taken.
+use Rattle.std.proofs.Common.{◌≡◌, ℕ, ◌+◌, ◌<◌, ◌≤◌, Bool, true, false, ◌||◌, List, [], ◌∷◌, ◌++◌, length, take, drop, Option, None, Some, refl, sym, ap, ◌∙◌, subst, append_assoc, append-nil, add-zero, length-append, arith, nat_lt}
+use Rattle.std.proofs.Math.Seq.{take-append_seam, drop-append_seam}
+use Rattle.std.proofs.lemmas.Bool.{lt-ltb, le-ltb}
+use Rattle.std.proofs.lemmas.Grind.{common_steps}
+use Rattle.flow_rules.specs.declared.limits.Limits.{Limits}
+use Rattle.capture_files.specs.Record.{Frame}
+use Rattle.io_edges.specs.ShelfState.{ShelfState}
+use Rattle.adapter.specs.declared.call.Call.{Call}
+use Rattle.adapter.specs.declared.entry.Entry.{Entry}
+use Rattle.adapter.specs.Seen.{Seen, Grows}
+use Rattle.flow_grammar.specs.declared.part.Part.{Part}
+use Rattle.flow_grammar.specs.declared.part.Part.TheVariants.{Section, Phase}
+use Rattle.whole_history.specs.Reach.{first, behind_first, asks_stop, left_by, taken_by, part_asks_stop, program_asks_stop}
+use Rattle.whole_history.specs.Serial.{asks_of, all_asks_of, passes_of, in_turn, part_of, serial_from}
+use Rattle.testpmd_shell.specs.declared.feed.Feed.{Feed}
+use Rattle.testpmd_shell.specs.Feed.{HasRead}
+use Rattle.testpmd_shell.specs.Phase.{IsFull, TakesMore, Takes}
+use Rattle.testpmd_shell.specs.Parts.{ended_in, taken_in, WasRead, MayRemain, TakesIn, RunsPart, PartsToGo, RunsParts}
+
+-- ---- the frames of a phase, whatever stands behind them
+
+no_more : {X : Type 0} (xs ys : List X) → ys ≡ [] → xs ++ ys ≡ xs
+no_more xs ys none = ap (λ l. xs ++ l) none ∙ append-nil xs
+
+take-short : (n : ℕ) (xs : List Frame) → length xs ≤ n → take n xs ≡ xs
+take-short n xs short = grind (arith, common_steps)
+
+drop-short : (n : ℕ) (xs : List Frame) → length xs ≤ n → drop n xs ≡ []
+drop-short n xs short = grind (arith, common_steps)
+
+record Full (count : Option ℕ) (more rest : List Frame) (ended ended' : Bool) : Type 0 where
+  taken : first count (more ++ rest) ≡ more
+  left : behind_first count (more ++ rest) ≡ rest
+  asked : (ended || asks_stop count (more ++ rest)) ≡ ended'
+
+full : (count : Option ℕ) (more rest : List Frame) (ended ended' : Bool) → IsFull count (length more) ended ended' → (ended ≡ true → ended' ≡ true) → MayRemain ended' rest → Full count more rest ended ended'
+full None more rest ended ended' is stays may = record {
+  taken = no_more more rest (may is);
+  left = sym (may is);
+  asked = or-true ended ∙ sym is;
+} where
+  or-true : (b : Bool) → (b || true) ≡ true
+  or-true true = refl
+  or-true false = refl
+full (Some n) more rest true ended' is stays may =
+    let none = may (stays refl) in record {
+      taken = ap (take n) (no_more more rest none) ∙ take-short n more is.0;
+      left = ap (drop n) (no_more more rest none) ∙ drop-short n more is.0 ∙ sym none;
+      asked = sym (stays refl);
+    }
+full (Some n) more rest false true is stays may =
+    let none = may refl in record {
+      taken = ap (take n) (no_more more rest none) ∙ take-short n more is.0;
+      left = ap (drop n) (no_more more rest none) ∙ drop-short n more is.0 ∙ sym none;
+      asked = ap (λ l. nat_lt (length l) n) (no_more more rest none) ∙ lt-ltb (length more) n (is.2 refl refl);
+    }
+full (Some n) more rest false false is stays may =
+    let same : length more ≡ n = is.1 refl in record {
+      taken = ap (λ m. take m (more ++ rest)) (sym same) ∙ take-append_seam more rest;
+      left = ap (λ m. drop m (more ++ rest)) (sym same) ∙ drop-append_seam more rest;
+      asked = le-ltb (length (more ++ rest)) n (omega (arith, length-append more rest));
+    }
+
+-- a session with a capture
+pub TakesIn-takes : (count : Option ℕ) (feed feed' : Feed) (state' : ShelfState) (content : List ℕ) (frames : List Frame) (before after : Seen)
+    → Takes count feed feed' state'.capture content frames before after → TakesIn count (Some feed) (Some feed') state' content frames before after
+TakesIn-takes count feed feed' state' content frames before after took =
+    let more = took.takes.more in
+    let whole = λ (rest : List Frame) (may : MayRemain feed'.reader.ended rest).
+        full count more rest feed.reader.ended feed'.reader.ended took.full (λ e. (took.takes.none e).1) may in
+    record {
+      more = more;
+      kept = refl;
+      read = took.takes.read;
+      counted = took.takes.counted;
+      grows = took.takes.grows;
+      taken = λ rest may. (whole rest may).taken;
+      left = λ rest may. (whole rest may).left;
+      asked = λ rest may. (whole rest may).asked;
+      none = took.takes.none;
+    }
+
+-- a session without one
+pub TakesIn-none : (count : Option ℕ) (state' : ShelfState) (content : List ℕ) (frames : List Frame) (before : Seen)
+    → frames ≡ [] → TakesIn count None None state' content frames before before
+TakesIn-none count state' content frames before none = record {
+  more = [];
+  kept = refl;
+  read = append-nil frames ∙ none;
+  counted = refl;
+  grows = record { limits = refl; history = sym (append-nil before.history) };
+  taken = λ rest may. ap (first count) (may refl) ∙ nothing count;
+  left = λ rest may. ap (behind_first count) (may refl) ∙ nothing_left count ∙ sym (may refl);
+  asked = λ rest may. refl;
+  none = λ e. (refl, refl);
+} where
+  nothing : (count : Option ℕ) → first count [] ≡ []
+  nothing None = refl
+  nothing (Some n) = take-short n [] (omega arith)
+  nothing_left : (count : Option ℕ) → behind_first count [] ≡ []
+  nothing_left None = refl
+  nothing_left (Some n) = drop-short n [] (omega arith)
+
+-- ---- a part
+
+-- what steps add in turn
+grows-turn : (step : List Entry → List Entry) (steps : List (List Entry → List Entry)) (s0 s1 s2 : Seen)
+    → Grows s0 s1 (step s0.history) → Grows s1 s2 (in_turn steps s1.history) → Grows s0 s2 (in_turn (step ∷ steps) s0.history)
+grows-turn step steps s0 s1 s2 one more = record {
+  limits = more.limits ∙ one.limits;
+  history = more.history ∙ ap (λ h. h ++ in_turn steps h) one.history ∙ append_assoc s0.history (step s0.history) (in_turn steps (s0.history ++ step s0.history));
+}
+
+grows-none : (s : Seen) → Grows s s (in_turn [] s.history)
+grows-none s = record { limits = refl; history = sym (append-nil s.history) }
+
+pub RunsPart-section : (calls : List Call) (feed : Option Feed) (state' : ShelfState) (content : List ℕ) (frames : List Frame) (before after : Seen)
+    → WasRead feed state' content frames → Grows before after (asks_of before.limits 0 calls before.history)
+    → RunsPart (Section calls) feed feed state' content frames before after
+RunsPart-section calls feed state' content frames before after was grows = record {
+  more = [];
+  kept = refl;
+  read = subst (WasRead feed state' content) (sym (append-nil frames)) was;
+  counted = sym (add-zero (taken_in feed));
+  grows = λ rest may. grows;
+  taken = λ rest may. refl;
+  left = λ rest may. refl;
+  asked = λ rest may. or-false (ended_in feed);
+  none = λ e. (refl, e);
+} where
+  or-false : (b : Bool) → (b || false) ≡ b
+  or-false true = refl
+  or-false false = refl
+
+-- the opening, and then the shell's calls
+grows-opening : (L : Limits) (opening : Call) (calls : List Call) (s0 s1 s2 : Seen) → s0.limits ≡ L → s1.limits ≡ L
+    → Grows s0 s1 (asks_of s0.limits 0 (opening ∷ []) s0.history) → Grows s1 s2 (asks_of s1.limits 0 calls s1.history)
+    → Grows s0 s2 (asks_of L 0 (opening ∷ calls) s0.history)
+grows-opening L opening calls s0 s1 s2 l0 l1 g1 g2 =
+    let one : Grows s0 s1 (asks_of L 0 (opening ∷ []) s0.history) = subst (λ l. Grows s0 s1 (asks_of l 0 (opening ∷ []) s0.history)) l0 g1 in
+    let two : Grows s1 s2 (asks_of L 0 calls s1.history) = subst (λ l. Grows s1 s2 (asks_of l 0 calls s1.history)) l1 g2 in
+    let asked = asks_of L 0 (opening ∷ []) s0.history in
+    record {
+      limits = two.limits ∙ one.limits;
+      history = two.history ∙ ap (λ h. h ++ asks_of L 0 calls h) one.history ∙ append_assoc s0.history asked (asks_of L 0 calls (s0.history ++ asked));
+    }
+
+pub RunsPart-phase : (opening closing : Call) (count : Option ℕ) (calls : List Call) (agents : List (List Call)) (feed feed' : Option Feed) (state' : ShelfState)
+    (content : List ℕ) (frames : List Frame) (s0 s1 s2 s3 s4 s5 : Seen)
+    → Grows s0 s1 (asks_of s0.limits 0 (opening ∷ []) s0.history) → Grows s1 s2 (asks_of s1.limits 0 calls s1.history)
+    → Grows s2 s3 (all_asks_of s2.limits 1 agents s2.history) → TakesIn count feed feed' state' content frames s3 s4
+    → Grows s4 s5 (asks_of s4.limits 0 (closing ∷ []) s4.history)
+    → RunsPart (Phase opening count calls agents closing) feed feed' state' content frames s0 s5
+RunsPart-phase opening closing count calls agents feed feed' state' content frames s0 s1 s2 s3 s4 s5 g1 g2 g3 took g5 =
+    let L = s0.limits in
+    let more = took.more in
+    let number = taken_in feed + 1 in
+    let l2 : s2.limits ≡ L = g2.limits ∙ g1.limits in
+    let l3 : s3.limits ≡ L = g3.limits ∙ l2 in
+    let l4 : s4.limits ≡ L = took.grows.limits ∙ l3 in
+    let opens = asks_of L 0 (opening ∷ calls) in
+    let tells = all_asks_of L 1 agents in
+    let closes = asks_of L 0 (closing ∷ []) in
+    let opened : Grows s0 s2 (opens s0.history) = grows-opening L opening calls s0 s1 s2 refl g1.limits g1 g2 in
+    let told : Grows s2 s3 (tells s2.history) = subst (λ l. Grows s2 s3 (all_asks_of l 1 agents s2.history)) l2 g3 in
+    let closed : Grows s4 s5 (closes s4.history) = subst (λ l. Grows s4 s5 (asks_of l 0 (closing ∷ []) s4.history)) l4 g5 in
+    let passed : Grows s3 s4 (passes_of L number more s3.history) = subst (λ l. Grows s3 s4 (passes_of l number more s3.history)) l3 took.grows in
+    record {
+      more = more;
+      kept = took.kept;
+      read = took.read;
+      counted = took.counted;
+      grows = λ rest may.
+          let passes = passes_of L number (first count (more ++ rest)) in
+          let all : Grows s3 s4 (passes s3.history) = subst (λ fs. Grows s3 s4 (passes_of L number fs s3.history)) (sym (took.taken rest may)) passed in
+          grows-turn opens (tells ∷ passes ∷ closes ∷ []) s0 s2 s5 opened
+          (grows-turn tells (passes ∷ closes ∷ []) s2 s3 s5 told
+          (grows-turn passes (closes ∷ []) s3 s4 s5 all
+          (grows-turn closes [] s4 s5 s5 closed (grows-none s5))));
+      taken = took.taken;
+      left = took.left;
+      asked = took.asked;
+      none = took.none;
+    }
+
+-- ---- all parts
+
+pub PartsToGo-start : (parts : List Part) (feed : Option Feed) (state' : ShelfState) (content : List ℕ) (frames : List Frame) (before : Seen)
+    → WasRead feed state' content frames → PartsToGo parts parts feed feed state' content frames before before
+PartsToGo-start parts feed state' content frames before was = record {
+  more = [];
+  kept = refl;
+  read = subst (WasRead feed state' content) (sym (append-nil frames)) was;
+  history = λ rest may. refl;
+  asked = λ rest may. refl;
+}
+
+or_assoc : (a b c : Bool) → (a || (b || c)) ≡ ((a || b) || c)
+or_assoc true b c = refl
+or_assoc false b c = refl
+
+-- one more part was run
+pub PartsToGo-next : (parts : List Part) (part : Part) (others : List Part) (start feed feed' : Option Feed) (state state' : ShelfState) (content : List ℕ) (frames : List Frame) (before mid after : Seen)
+    → (go : PartsToGo parts (part ∷ others) start feed state content frames before mid) → mid.limits ≡ before.limits
+    → RunsPart part feed feed' state' content (frames ++ go.more) mid after
+    → PartsToGo parts others start feed' state' content frames before after
+PartsToGo-next parts part others start feed feed' state state' content frames before mid after go limits ran =
+    let L = before.limits in
+    let more = ran.more in
+    let number = taken_in feed + 1 in
+    let may' = λ (rest : List Frame) (may : MayRemain (ended_in feed') rest) (ended : ended_in feed ≡ true).
+        let none = ran.none ended in no_more more rest (may none.1) ∙ none.0 in
+    record {
+      more = go.more ++ more;
+      kept = ran.kept ∙ go.kept;
+      read = subst (WasRead feed' state' content) (append_assoc frames go.more more) ran.read;
+      history = λ rest may.
+          let fs = more ++ rest in
+          let left : left_by part fs ≡ rest = ran.left rest may in
+          let added = part_of L number fs part mid.history in
+          let grew : after.history ≡ mid.history ++ added =
+              (ran.grows rest may).history ∙ ap (λ l. mid.history ++ part_of l number fs part mid.history) limits in
+          let count : number + length (taken_by part fs) ≡ taken_in feed' + 1 =
+              let counted = ran.counted in omega (arith, ap length (ran.taken rest may)) in
+          ap (λ l. before.history ++ serial_from L (taken_in start + 1) l parts before.history) (append_assoc go.more more rest)
+          ∙ go.history fs (may' rest may)
+          ∙ sym (append_assoc mid.history added (serial_from L (number + length (taken_by part fs)) (left_by part fs) others (mid.history ++ added)))
+          ∙ ap (λ n. (mid.history ++ added) ++ serial_from L n (left_by part fs) others (mid.history ++ added)) count
+          ∙ ap (λ l. (mid.history ++ added) ++ serial_from L (taken_in feed' + 1) l others (mid.history ++ added)) left
+          ∙ ap (λ h. h ++ serial_from L (taken_in feed' + 1) rest others h) (sym grew);
+      asked = λ rest may.
+          let fs = more ++ rest in
+          ap (λ l. ended_in start || program_asks_stop parts l) (append_assoc go.more more rest)
+          ∙ go.asked fs (may' rest may)
+          ∙ or_assoc (ended_in feed) (part_asks_stop part fs) (program_asks_stop others (left_by part fs))
+          ∙ ap (λ b. b || program_asks_stop others (left_by part fs)) (ran.asked rest may)
+          ∙ ap (λ l. ended_in feed' || program_asks_stop others l) (ran.left rest may);
+    }
+
+-- no part is left
+pub RunsParts-end : (parts : List Part) (start feed : Option Feed) (state' : ShelfState) (content : List ℕ) (frames : List Frame) (before after : Seen)
+    → PartsToGo parts [] start feed state' content frames before after → RunsParts parts start feed state' content frames before after
+RunsParts-end parts start feed state' content frames before after go = record {
+  more = go.more;
+  kept = go.kept;
+  read = go.read;
+  history = λ rest may. sym (append-nil after.history) ∙ sym (go.history rest may);
+  asked = λ rest may. go.asked rest may ∙ or-false (ended_in feed);
+} where
+  or-false : (b : Bool) → (b || false) ≡ b
+  or-false true = refl
+  or-false false = refl

@@ -1,0 +1,136 @@
+-- One more frame of a phase, and the phase's end.
+use Rattle.std.proofs.Common.{◌≡◌, ℕ, ◌+◌, ◌-◌, ◌<◌, ◌≤◌, Bool, true, false, List, [], ◌∷◌, ◌++◌, length, take, Option, None, Some, refl, sym, ap, ◌∙◌, subst, append_assoc, append-nil, add-zero, length-append, arith, inl, inr, eqb}
+use Rattle.std.specs.Prelude.{◌⊎◌}
+use Rattle.std.proofs.lemmas.Bool.Decides.{nat_tests}
+use Rattle.packet_headers.specs.Layers.{layers}
+use Rattle.capture_files.specs.Record.{Frame}
+use Rattle.io_edges.specs.ShelfState.{SlotState}
+use Rattle.adapter.specs.declared.entry.Entry.{Entry}
+use Rattle.adapter.specs.declared.parcel.Parcel.{Parcel}
+use Rattle.adapter.specs.Seen.{Seen, Grows}
+use Rattle.adapter.specs.History.{passed_by}
+use Rattle.flow_rules.specs.declared.limits.Limits.{Limits}
+use Rattle.whole_history.specs.Reach.{parcel_of}
+use Rattle.whole_history.specs.Serial.{caller_at, passes_of}
+use Rattle.whole_history.proofs.Extending.{passes_of-last}
+use Rattle.testpmd_shell.specs.declared.feed.Feed.{Feed}
+use Rattle.testpmd_shell.specs.Feed.{HasRead, ReadsOn}
+use Rattle.testpmd_shell.specs.Phase.{parcel_at, is_spent, one_less, IsLeftOf, IsFull, TakesMore, GoesOn, Takes}
+
+-- nothing was taken so far
+pub GoesOn-none : (count : Option ℕ) (feed : Feed) (slot : SlotState) (content : List ℕ) (frames : List Frame) (before : Seen)
+    → HasRead feed slot content frames → GoesOn count count feed feed slot content frames before before
+GoesOn-none count feed slot content frames before has = record {
+  takes = record {
+    more = [];
+    read = subst (HasRead feed slot content) (sym (append-nil frames)) has;
+    grows = record { limits = refl; history = sym (append-nil before.history) };
+    counted = sym (add-zero feed.taken);
+    none = λ ended. (refl, ended);
+  };
+  remains = all count;
+} where
+  all : (count : Option ℕ) → IsLeftOf count 0 count
+  all None = refl
+  all (Some n) = (omega arith, ap Some (let same : n ≡ n - 0 = omega arith in same))
+
+IsLeftOf-next : (count left : Option ℕ) (taken : ℕ) → is_spent left ≡ false → IsLeftOf count taken left → IsLeftOf count (taken + 1) (one_less left)
+IsLeftOf-next None left taken unspent remains = ap one_less remains
+IsLeftOf-next (Some n) left taken unspent remains =
+    let some : eqb (n - taken) 0 ≡ false = subst (λ o. is_spent o ≡ false) remains.1 unspent in
+    let room : taken < n = grind (arith, nat_tests) in
+    (omega arith, ap one_less remains.1 ∙ ap Some (let same : n - taken - 1 ≡ n - (taken + 1) = omega arith in same))
+
+grows-next : (before mid after : Seen) (number number' : ℕ) (more : List Frame) (frame : Frame) (bytes : List ℕ)
+    → Grows before mid (passes_of before.limits number more before.history) → frame.bytes ≡ bytes → number' ≡ number + length more
+    → Grows mid after (passed_by mid.limits mid.history (caller_at 9) (parcel_at number' bytes) ∷ [])
+    → Grows before after (passes_of before.limits number (more ++ frame ∷ []) before.history)
+grows-next before mid after number number' more frame bytes grew shown counted enters =
+    let passed = λ (l : Limits) (h : List Entry) (p : Parcel). passed_by l h (caller_at 9) p in
+    let others = passes_of before.limits number more before.history in
+    let same : parcel_at number' bytes ≡ parcel_of (number + length more) frame =
+        ap (λ n. parcel_at n bytes) counted ∙ ap (parcel_at (number + length more)) (sym shown) in
+    let entry : passed mid.limits mid.history (parcel_at number' bytes) ≡ passed before.limits (before.history ++ others) (parcel_of (number + length more) frame) =
+        ap (λ l. passed l mid.history (parcel_at number' bytes)) grew.limits
+        ∙ ap (λ h. passed before.limits h (parcel_at number' bytes)) grew.history
+        ∙ ap (passed before.limits (before.history ++ others)) same in
+    record {
+      limits = enters.limits ∙ grew.limits;
+      history = enters.history ∙ ap (λ e. mid.history ++ e ∷ []) entry
+          ∙ ap (λ h. h ++ passed before.limits (before.history ++ others) (parcel_of (number + length more) frame) ∷ []) grew.history
+          ∙ append_assoc before.history others (passed before.limits (before.history ++ others) (parcel_of (number + length more) frame) ∷ [])
+          ∙ ap (λ l. before.history ++ l) (sym (passes_of-last before.limits number more frame before.history));
+    }
+
+-- one more frame was taken
+pub GoesOn-next : (count left : Option ℕ) (start feed feed' : Feed) (slot slot' : SlotState) (content : List ℕ) (frames : List Frame) (before mid after : Seen) (len : ℕ)
+    → (go : GoesOn count left start feed slot content frames before mid) → start.reader.ended ≡ false → is_spent left ≡ false
+    → ReadsOn feed' slot' content (frames ++ go.takes.more) (Some len) → feed'.taken ≡ feed.taken + 1
+    → Grows mid after (passed_by mid.limits mid.history (caller_at 9) (parcel_at feed'.taken (take len feed'.buffer.items)) ∷ [])
+    → GoesOn count (one_less left) start feed' slot' content frames before after
+GoesOn-next count left start feed feed' slot slot' content frames before mid after len go running unspent reads counts enters =
+    let more = go.takes.more in
+    let frame = reads.0 in
+    let long : length (more ++ frame ∷ []) ≡ length more + 1 = length-append more (frame ∷ []) in
+    let number : feed'.taken ≡ (start.taken + 1) + length more = let counted = go.takes.counted in omega arith in
+    record {
+      takes = record {
+        more = more ++ frame ∷ [];
+        read = subst (HasRead feed' slot' content) (append_assoc frames more (frame ∷ [])) reads.2;
+        grows = grows-next before mid after (start.taken + 1) feed'.taken more frame (take len feed'.buffer.items) go.takes.grows reads.1 number enters;
+        counted = let counted = go.takes.counted in omega arith;
+        none = λ ended. cc;
+      };
+      remains = subst (λ n. IsLeftOf count n (one_less left)) (sym long) (IsLeftOf-next count left (length more) unspent go.remains);
+    }
+
+IsFull-here : (count left : Option ℕ) (taken : ℕ) (ended ended' : Bool) → ended' ≡ ended → IsLeftOf count taken left → (ended' ≡ true) ⊎ (is_spent left ≡ true) → IsFull count taken ended ended'
+IsFull-here None left taken ended ended' same remains (inl at_end) = at_end
+IsFull-here None left taken ended ended' same remains (inr spent) = absurd (never (subst (λ o. is_spent o ≡ true) remains spent)) where
+  never : false ≡ true → ⊥
+  never e = cc
+IsFull-here (Some n) left taken ended ended' same remains (inl at_end) = (remains.0, λ e. absurd (apart e), λ e e'. absurd (other e)) where
+  apart : ended' ≡ false → ⊥
+  apart e = cc
+  other : ended ≡ false → ⊥
+  other e = cc
+IsFull-here (Some n) left taken ended ended' same remains (inr spent) =
+    let none : eqb (n - taken) 0 ≡ true = subst (λ o. is_spent o ≡ true) remains.1 spent in
+    let all : n ≤ taken = grind (arith, nat_tests) in
+    (remains.0, λ e. omega arith, λ e e'. absurd (apart e e')) where
+  apart : ended ≡ false → ended' ≡ true → ⊥
+  apart e e' = cc
+
+IsFull-ended : (count left : Option ℕ) (taken : ℕ) (ended ended' : Bool) → ended' ≡ true → IsLeftOf count taken left → is_spent left ≡ false → IsFull count taken ended ended'
+IsFull-ended None left taken ended ended' at_end remains unspent = at_end
+IsFull-ended (Some n) left taken ended ended' at_end remains unspent =
+    let some : eqb (n - taken) 0 ≡ false = subst (λ o. is_spent o ≡ false) remains.1 unspent in
+    let room : taken < n = grind (arith, nat_tests) in
+    (remains.0, λ e. absurd (apart e), λ e e'. room) where
+  apart : ended' ≡ false → ⊥
+  apart e = cc
+
+-- the phase has all its frames, or the capture had ended before it
+pub Takes-here : (count left : Option ℕ) (start feed : Feed) (slot : SlotState) (content : List ℕ) (frames : List Frame) (before after : Seen)
+    → GoesOn count left start feed slot content frames before after → feed.reader.ended ≡ start.reader.ended → (feed.reader.ended ≡ true) ⊎ (is_spent left ≡ true)
+    → Takes count start feed slot content frames before after
+Takes-here count left start feed slot content frames before after go same done = record {
+  takes = go.takes;
+  full = IsFull-here count left (length go.takes.more) start.reader.ended feed.reader.ended same go.remains done;
+}
+
+-- the capture ended
+pub Takes-ended : (count left : Option ℕ) (start feed feed' : Feed) (slot slot' : SlotState) (content : List ℕ) (frames : List Frame) (before after : Seen)
+    → (go : GoesOn count left start feed slot content frames before after) → is_spent left ≡ false → HasRead feed' slot' content (frames ++ go.takes.more)
+    → feed'.taken ≡ feed.taken → feed'.reader.ended ≡ true
+    → Takes count start feed' slot' content frames before after
+Takes-ended count left start feed feed' slot slot' content frames before after go unspent has counts ended = record {
+  takes = record {
+    more = go.takes.more;
+    read = has;
+    grows = go.takes.grows;
+    counted = counts ∙ go.takes.counted;
+    none = λ e. (let none = go.takes.none e in none.0, ended);
+  };
+  full = IsFull-ended count left (length go.takes.more) start.reader.ended feed'.reader.ended ended go.remains unspent;
+}

@@ -1,0 +1,77 @@
+use Rattle.std.proofs.Common.{◌≡◌, ℕ, [], ◌∷◌, ◌++◌, take, true, false, refl, sym, subst, ◌∙◌, inl, inr, rules, arith}
+use Rattle.io_edges.specs.declared.shelf.Slot.TheVariants.{Capture}
+use Rattle.io_edges.specs.LentLaws.{KeepsSlot-none}
+use Rattle.adapter.specs.Seen.{Grows}
+use Rattle.adapter.specs.History.{passed_by}
+use Rattle.whole_history.specs.Serial.{caller_at}
+use Rattle.testpmd_shell.specs.Feed.{IsFaultOf}
+use Rattle.testpmd_shell.specs.Phase.{GoesOn, parcel_at}
+use Rattle.testpmd_shell.proofs.Passing.{GoesOn-none, GoesOn-next, Takes-here, Takes-ended}
+use Rattle.testpmd_shell.proofs.phase.pass_frames.Goals as goal
+
+pub loop-left-init : goal.loop-left-init
+loop-left-init g c = record {
+  ready = c.requires.ready;
+  opened = c.requires.opened;
+  goes_on = λ content frames has. GoesOn-none c.args.count c.args.feed.now (g.S.Shelf.state c.args.shelf.now).capture content frames c.args.adapter.now has;
+  same = refl;
+  calm = refl;
+  ending = refl;
+  limits = refl;
+  keeps = KeepsSlot-none Capture (g.S.Shelf.state c.args.shelf.now);
+}
+
+pub returns-in_default-clause-takes : goal.returns-in_default-clause-takes
+returns-in_default-clause-takes g c content frames has =
+    let go = c.loop-left.invariant.goes_on content frames has in
+    Takes-ended c.args.count c.loop-left.left c.args.feed.now c.loop-left.feed c.next_frame.new.feed
+    (g.S.Shelf.state c.loop-left.shelf).capture (g.S.Shelf.state c.next_frame.new.shelf).capture content frames c.args.adapter.now c.loop-left.adapter
+    go (sym c.if-not-spent.ensures) (c.in_default.ensures.reads content (frames ++ go.takes.more) go.takes.read) c.in_default.ensures.counts.0 c.in_default.ensures.counts.1
+
+pub loop-left-smaller : goal.loop-left-smaller
+loop-left-smaller g c =
+    let running : c.loop-left.feed.reader.ended ≡ false = sym c.loop-left-test.ensures in
+    let counts = c.in-Some.ensures.counts in
+    let before = c.loop-left.invariant.ready.counted running in
+    let after = c.in-Some.ensures.ready.counted counts.2 in
+    omega arith
+
+pub loop-left-preserved : goal.loop-left-preserved
+loop-left-preserved g c =
+    let running : c.loop-left.feed.reader.ended ≡ false = sym c.loop-left-test.ensures in
+    let started : c.args.feed.now.reader.ended ≡ false = sym c.loop-left.invariant.same ∙ running in
+    let counts = c.in-Some.ensures.counts in
+    let before = c.loop-left.invariant.ready.going_on running in
+    let after = c.in-Some.ensures.ready.going_on counts.2 in
+    record {
+      ready = c.in-Some.ensures.ready;
+      opened = c.in-Some.ensures.keeps.opened ∙ c.loop-left.invariant.opened;
+      goes_on = λ content frames has.
+          let go = c.loop-left.invariant.goes_on content frames has in
+          let enters = subst (λ bytes. Grows c.loop-left.adapter c.pass.new.adapter
+              (passed_by c.loop-left.adapter.limits c.loop-left.adapter.history (caller_at 9) (parcel_at c.next_frame.new.feed.taken (take c.in-Some.len bytes)) ∷ []))
+              c.deref.ensures.value c.in_ok-pass.ensures.enters in
+          subst (λ left. GoesOn c.args.count left c.args.feed.now c.next_frame.new.feed (g.S.Shelf.state c.next_frame.new.shelf).capture content frames c.args.adapter.now c.pass.new.adapter)
+          (sym c.behind_one-left.ensures)
+          (GoesOn-next c.args.count c.loop-left.left c.args.feed.now c.loop-left.feed c.next_frame.new.feed
+          (g.S.Shelf.state c.loop-left.shelf).capture (g.S.Shelf.state c.next_frame.new.shelf).capture content frames c.args.adapter.now c.loop-left.adapter c.pass.new.adapter c.in-Some.len
+          go started (sym c.if-not-spent.ensures) (c.in-Some.ensures.reads content (frames ++ go.takes.more) go.takes.read) counts.0 enters);
+      same = counts.2 ∙ sym started;
+      calm = subst (λ ending. IsFaultOf ending (g.S.Shelf.state c.loop-left.shelf).capture.faults (g.S.Shelf.state c.next_frame.new.shelf).capture.faults) after c.in-Some.ensures.fault
+          ∙ c.loop-left.invariant.calm;
+      ending = after ∙ sym before ∙ c.loop-left.invariant.ending;
+      limits = c.in_ok-pass.ensures.limits ∙ c.loop-left.invariant.limits;
+      keeps = search rules;
+    }
+
+pub returns-else-not-spent-clause-takes : goal.returns-else-not-spent-clause-takes
+returns-else-not-spent-clause-takes g c content frames has =
+    let go = c.loop-left.invariant.goes_on content frames has in
+    Takes-here c.args.count c.loop-left.left c.args.feed.now c.loop-left.feed (g.S.Shelf.state c.loop-left.shelf).capture content frames c.args.adapter.now c.loop-left.adapter
+    go c.loop-left.invariant.same (inr (sym c.if-not-spent.ensures))
+
+pub returns-after-loop-left-clause-takes : goal.returns-after-loop-left-clause-takes
+returns-after-loop-left-clause-takes g c content frames has =
+    let go = c.loop-left.invariant.goes_on content frames has in
+    Takes-here c.args.count c.loop-left.left c.args.feed.now c.loop-left.feed (g.S.Shelf.state c.loop-left.shelf).capture content frames c.args.adapter.now c.loop-left.adapter
+    go c.loop-left.invariant.same (inl (sym c.loop-left-test.ensures))

@@ -1,0 +1,105 @@
+//! The parts of a program in the serial order.
+ghost use Rattle.std.specs.Prelude.{◌≡◌, ℕ, [], ◌∷◌, false, OnOk, List};
+ghost use Rattle.capture_files.specs.Record.{Frame};
+ghost use Rattle.io_edges.specs.ShelfState.{ShelfState};
+ghost use Rattle.io_edges.specs.Lent.{KeepsSlot};
+ghost use Rattle.io_edges.specs.LentLaws.{KeepsSlot-none};
+ghost use Rattle.whole_history.specs.Reach.{is_phase, has_phase};
+ghost use Rattle.whole_history.specs.Serial.{asks_of};
+ghost use Rattle.adapter.specs.Seen.{Grows};
+ghost use Rattle.testpmd_shell.specs.Feed.{CarriesFault};
+ghost use Rattle.testpmd_shell.specs.Parts.{IsOpen, WasRead, TakesIn, RunsPart, RunsParts, ending_in};
+
+use crate::ask::{ask_agents, ask_all};
+use crate::feed::Feed;
+use crate::phase::pass_frames;
+use adapter::{Adapter, Call, Caller};
+use flow_grammar::Part;
+use io_edges::{Shelf, Slot};
+use std::alloc::AllocError;
+
+/// Asks one call as the shell.
+fn ask(adapter: &mut Adapter, call: &Call) -> Result<(), AllocError>
+    ensures asks { OnOk result (Grows adapter.old adapter.new (asks_of adapter.old.limits 0 (call.now ∷ []) adapter.old.history)) }
+    ensures limits { adapter.new.limits ≡ adapter.old.limits }
+{
+    adapter.step(Caller::SHELL, call)?;
+    Ok(())
+}
+
+/// Lets the frames of a phase pass, where the session has a capture.
+fn take_frames<S: Shelf>(
+    adapter: &mut Adapter,
+    shelf: &mut S,
+    feed: &mut Option<Feed>,
+    count: Option<u32>,
+) -> Result<(), AllocError>
+    requires { IsOpen feed.old (S.state shelf.old) }
+    ensures open { IsOpen feed.new (S.state shelf.new) }
+    ensures takes { OnOk result ((content : List ℕ) → (frames : List Frame) → WasRead feed.old (S.state shelf.old) content frames
+        → TakesIn count feed.old feed.new (S.state shelf.new) content frames adapter.old adapter.new) }
+    ensures fault { CarriesFault (ending_in feed.old) (ending_in feed.new) (S.state shelf.old).capture.faults (S.state shelf.new).capture.faults }
+    ensures limits { adapter.new.limits ≡ adapter.old.limits }
+    ensures keeps { KeepsSlot Slot.Capture (S.state shelf.old) (S.state shelf.new) }
+{
+    let Some(feed) = feed else {
+        return Ok(());
+    };
+    pass_frames(adapter, feed, shelf, count)
+}
+
+/// Runs a part of a program: a section's calls, or a phase's, and then its frames by worker 0.
+fn run_part<S: Shelf>(
+    adapter: &mut Adapter,
+    part: &Part,
+    shelf: &mut S,
+    feed: &mut Option<Feed>,
+) -> Result<(), AllocError>
+    requires { IsOpen feed.old (S.state shelf.old) }
+    ensures open { IsOpen feed.new (S.state shelf.new) }
+    ensures runs { OnOk result ((content : List ℕ) → (frames : List Frame) → WasRead feed.old (S.state shelf.old) content frames
+        → RunsPart part.now feed.old feed.new (S.state shelf.new) content frames adapter.old adapter.new) }
+    ensures fault { CarriesFault (ending_in feed.old) (ending_in feed.new) (S.state shelf.old).capture.faults (S.state shelf.new).capture.faults }
+    ensures limits { adapter.new.limits ≡ adapter.old.limits }
+    ensures keeps { KeepsSlot Slot.Capture (S.state shelf.old) (S.state shelf.new) }
+    ensures unread { is_phase part.now ≡ false → S.state shelf.new ≡ S.state shelf.old }
+{
+    match part {
+        Part::Section(calls) => ask_all(adapter, Caller::SHELL, calls.as_slice()),
+        Part::Phase {
+            opening,
+            count,
+            shell,
+            agents,
+            closing,
+        } => {
+            ask(adapter, opening)?;
+            ask_all(adapter, Caller::SHELL, shell.as_slice())?;
+            ask_agents(adapter, agents)?;
+            take_frames(adapter, shelf, feed, *count)?;
+            ask(adapter, closing)
+        }
+    }
+}
+
+/// Runs the parts of a program: in each phase the shell's calls, the agents', and then the frames by worker 0.
+pub(crate) fn run_parts<S: Shelf>(
+    adapter: &mut Adapter,
+    program: &[Part],
+    shelf: &mut S,
+    feed: &mut Option<Feed>,
+) -> Result<(), AllocError>
+    requires { IsOpen feed.old (S.state shelf.old) }
+    ensures open { IsOpen feed.new (S.state shelf.new) }
+    ensures runs { OnOk result ((content : List ℕ) → (frames : List Frame) → WasRead feed.old (S.state shelf.old) content frames
+        → RunsParts program.now feed.old feed.new (S.state shelf.new) content frames adapter.old adapter.new) }
+    ensures fault { CarriesFault (ending_in feed.old) (ending_in feed.new) (S.state shelf.old).capture.faults (S.state shelf.new).capture.faults }
+    ensures limits { adapter.new.limits ≡ adapter.old.limits }
+    ensures keeps { KeepsSlot Slot.Capture (S.state shelf.old) (S.state shelf.new) }
+    ensures unread { has_phase program.now ≡ false → S.state shelf.new ≡ S.state shelf.old }
+{
+    for part in program {
+        run_part(adapter, part, shelf, feed)?;
+    }
+    Ok(())
+}
