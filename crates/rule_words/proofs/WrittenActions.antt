@@ -1,16 +1,14 @@
 -- Actions that are written as the grammar says are read so, and what is read was written so.
-use Rattle.std.proofs.Common.{◌≡◌, ℕ, ◌≤◌, cond, false, List, [], ◌∷◌, ◌++◌, length, codes, Option, None, Some, refl, arith, sym, ap, ◌∙◌}
+use Rattle.std.proofs.Common.{◌≡◌, ℕ, false, List, [], ◌∷◌, ◌++◌, codes, None, Some, refl, arith, sym, ap, ◌∙◌}
 use Rattle.std.specs.Option.{option_and_then, option_map}
 use Rattle.std.specs.Str.{bytes_eq}
 use Rattle.std.proofs.lemmas.Slice.Eq.{bytes_eq-Decides}
 use Rattle.flow_actions.specs.declared.action.Action.{Action}
 use Rattle.flow_actions.specs.declared.action.Action.TheVariants as action
 use Rattle.flow_actions.specs.declared.action.Actions.{Actions}
-use Rattle.rule_words.specs.declared.value.Form.{Form}
-use Rattle.rule_words.specs.Value.{value_of}
 use Rattle.rule_words.specs.Vocabulary.{meaning_of}
 use Rattle.rule_words.specs.Turns.{up_to}
-use Rattle.rule_words.specs.Actions.{words, value_row, with_value, with_word, setting, with_action, action_behind}
+use Rattle.rule_words.specs.Actions.{words, with_word, setting, with_action, action_behind}
 use Rattle.rule_words.specs.Written.{words_up_to, made_by, WrittenValue, value_words, action_with, WrittenAction, action_words, actions_with}
 use Rattle.rule_words.proofs.TurnsWritten.{on_some, on_map, is_false, up_to-read, turns-only}
 

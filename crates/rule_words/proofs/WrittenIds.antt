@@ -1,7 +1,6 @@
 -- Ids that are written as the grammar says are read so.
-use Rattle.std.proofs.Common.{◌≡◌, ℕ, ◌≤◌, cond, true, false, List, [], ◌∷◌, ◌++◌, length, Option, None, Some, refl, sym, ap, ◌∙◌}
+use Rattle.std.proofs.Common.{◌≡◌, ℕ, ◌≤◌, cond, false, List, [], ◌∷◌, ◌++◌, length, None, Some, refl, ap, ◌∙◌}
 use Rattle.std.specs.Option.{option_and_then, option_map}
-use Rattle.std.specs.Str.{bytes_eq}
 use Rattle.std.proofs.lemmas.Slice.Eq.{bytes_eq-Decides}
 use Rattle.rule_words.specs.Number.{number_of_bits}
 use Rattle.rule_words.specs.Ids.{ids_in_front, ids_of}

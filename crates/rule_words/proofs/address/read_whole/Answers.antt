@@ -1,5 +1,5 @@
 use Rattle.std.proofs.Common.{◌≡◌, ◌^◌, ap, ◌∙◌, arith}
-use Rattle.rule_words.specs.Address.{factor_of, most_groups, width_of}
+use Rattle.rule_words.specs.Address.{factor_of, width_of}
 use Rattle.rule_words.proofs.Groups.{power-is}
 use Rattle.rule_words.proofs.address.read_whole.Goals as goal
 

@@ -1,9 +1,9 @@
 -- The words from a place on begin with an id, or end the list.
-use Rattle.std.proofs.Common.{◌≡◌, ℕ, ◌+◌, ◌-◌, ◌≤◌, List, [], ◌∷◌, ◌++◌, length, length-take, length-drop, take, drop, map, None, Some, Bor, arith, subst, sym, ap, ◌∙◌}
-use Rattle.std.proofs.lemmas.List.{drop-drop, length-map}
+use Rattle.std.proofs.Common.{◌≡◌, ℕ, ◌+◌, ◌-◌, ◌≤◌, List, [], length, length-take, length-drop, take, drop, map, None, Some, Bor, arith, subst, sym, ap, ◌∙◌}
+use Rattle.std.proofs.lemmas.List.{drop-drop}
 use Rattle.rule_words.specs.Ids.{ids_in_front}
 use Rattle.rule_words.proofs.TurnSteps.{map-rest}
-use Rattle.rule_words.proofs.IdSteps.{joined, with_id, joined-push, ids-many, ids-bad, ids-ended, ids-empty, ids-none}
+use Rattle.rule_words.proofs.IdSteps.{joined, with_id, joined-push, ids-many, ids-bad, ids-ended, ids-empty}
 use Rattle.rule_words.proofs.ids.read_ids.Goals as goal
 
 pub returns-then-len-most : goal.returns-then-len-most

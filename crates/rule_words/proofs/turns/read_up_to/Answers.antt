@@ -1,5 +1,5 @@
 -- Each turn reads the words from a place on.
-use Rattle.std.proofs.Common.{arith, ◌≡◌, ◌+◌, ◌-◌, ◌≤◌, ◌<◌, List, ℕ, length, length-take, length-drop, take, drop, map, get_or, sym, ap, ◌∙◌, Bor}
+use Rattle.std.proofs.Common.{arith, ◌≡◌, ◌+◌, ◌-◌, ◌≤◌, ◌<◌, List, ℕ, length, length-take, length-drop, take, drop, map, sym, ap, ◌∙◌, Bor}
 use Rattle.std.proofs.lemmas.List.{drop-drop, get_or-map, length-map}
 use Rattle.rule_words.proofs.TurnSteps.{turns-past, turns-end, turns-none, turns-more, map-rest}
 use Rattle.rule_words.specs.Turns.{turns}
