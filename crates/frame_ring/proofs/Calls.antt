@@ -1,21 +1,22 @@
 -- What the calls on a ring owe and learn, where a pass carries itself alone.
 use Rattle.std.proofs.Common.{◌≡◌, ◌↔◌, ℕ, zero, suc, ◌+◌, ◌<◌, ◌≤◌, List, [], ◌∷◌, ◌++◌, length, drop, All, Option, Some, None, Result, Ok, Err, IsNone, IsErr, IfSome, MatchOption, MatchResult, sym, refl, ap, ◌∙◌, subst, append-nil, length-append, arith}
 use Rattle.std.specs.Prelude.{⊤}
+use Rattle.std.specs.List.{sum_by}
+use Rattle.std.proofs.lemmas.List.{length-drop}
 use Rattle.crossbeam_queue.specs.Fifo.{Pushes, Pops, Learns, Held}
-use Rattle.frame_ring.specs.declared.buffer.TheConstants.{BUFFER_BYTES}
 use Rattle.frame_ring.specs.Frame.{Frame}
 use Rattle.frame_ring.specs.declared.view.RingView.{RingView}
 use Rattle.frame_ring.specs.declared.view.FreeView.{FreeView}
-use Rattle.frame_ring.specs.Views.{pass_frames, pass_counts, knows, counts}
+use Rattle.frame_ring.specs.Views.{pass_frames, pass_counts, knows, counts, total, came_out}
 use Rattle.frame_ring.specs.Rows.{last_of}
 use Rattle.frame_ring.specs.RingRule.{RingRule, RingMoment}
 use Rattle.frame_ring.specs.FreeRule.{FreeRule, FreeMoment}
-use Rattle.frame_ring.specs.Steps.{with_grab, Offers, Grabs, Takes, Gives}
+use Rattle.frame_ring.specs.Steps.{with_grab, Offers, Grabs, Takes, Gives, spent}
 use Rattle.frame_ring.specs.Passes.{first_offered, first_grabbed}
-use Rattle.frame_ring.proofs.Lists.{nothing}
+use Rattle.frame_ring.proofs.Lists.{nothing, total_set}
 use Rattle.frame_ring.proofs.Rows.{row_front, row_behind, row_above, below_last, row_under}
 use Rattle.frame_ring.proofs.RingSteps.{is_kept, offers, grabs}
-use Rattle.frame_ring.proofs.RingFacts.{tells, left_is}
+use Rattle.frame_ring.proofs.RingFacts.{tells, left_is, counted}
 use Rattle.frame_ring.proofs.FreeSteps as free
 
 pub ring_learns : (i : ℕ) (v : RingView) → Learns RingRule i v (RingMoment v)
@@ -33,7 +34,7 @@ gives_from n i passes number taken given x v e = let P : FreeView → Type 0 = �
 pub grabs_from : (i fl pa ca number : ℕ) (o g : List Frame) (v : RingView) → v ≡ knows fl pa ca (pass_frames number o g ∷ []) [] → Pops RingRule i v (Grabs v)
 grabs_from i fl pa ca number o g v e = let P : RingView → Type 0 = λ u. Pops RingRule i u (Grabs u) in subst P (sym e) (grabs i fl pa ca number o g)
 
-pub offers_from : (n i fl pa number : ℕ) (o g : List Frame) (x : Frame) (v : RingView) → v ≡ knows fl pa n (pass_frames number o g ∷ []) [] → number ≡ 0 → fl < x.number → All (λ f. f.number < x.number) o → x.len ≤ BUFFER_BYTES
+pub offers_from : (n i fl pa number : ℕ) (o g : List Frame) (x : Frame) (v : RingView) → v ≡ knows fl pa n (pass_frames number o g ∷ []) [] → number ≡ 0 → fl < x.number → All (λ f. f.number < x.number) o → x.len ≤ 262144
     → Pushes RingRule n i v x (Offers v x)
 offers_from n i fl pa number o g x v e first above rises short =
     let P : RingView → Type 0 = λ u. Pushes RingRule n i u x (Offers u x) in
@@ -41,7 +42,7 @@ offers_from n i fl pa number o g x v e first above rises short =
 
 -- the oldest frame in the ring, for one pass
 above_now : (fl pa ca number : ℕ) (o g : List Frame) (x : Frame) (rest : List Frame) → RingMoment (knows fl pa ca (pass_frames number o g ∷ []) []) (x ∷ rest)
-    → (fl < x.number) × All (λ f. f.number < x.number) g × (x.len ≤ BUFFER_BYTES)
+    → (fl < x.number) × All (λ f. f.number < x.number) g × (x.len ≤ 262144)
 above_now fl pa ca number o g x rest moment =
     let views = moment.0 in
     let i = moment.1.0 in
@@ -60,7 +61,7 @@ above_now fl pa ca number o g x rest moment =
     )
 
 above : (fl pa ca number : ℕ) (o g : List Frame) (v : RingView) (x : Frame) (rest : List Frame) → v ≡ knows fl pa ca (pass_frames number o g ∷ []) [] → RingMoment v (x ∷ rest)
-    → (fl < x.number) × All (λ f. f.number < x.number) g × (x.len ≤ BUFFER_BYTES)
+    → (fl < x.number) × All (λ f. f.number < x.number) g × (x.len ≤ 262144)
 above fl pa ca number o g v x rest e moment = above_now fl pa ca number o g x rest (subst (λ u. RingMoment u (x ∷ rest)) e moment)
 
 pub above_if : (fl pa ca number : ℕ) (o g : List Frame) (v w : RingView) (r : Option Frame) → v ≡ knows fl pa ca (pass_frames number o g ∷ []) [] → MatchOption r ((w ≡ v) × Held 0 (RingMoment v)) (λ x. Grabs v x w)
@@ -68,7 +69,7 @@ pub above_if : (fl pa ca number : ℕ) (o g : List Frame) (v w : RingView) (r : 
 above_if fl pa ca number o g v w None e told = tt
 above_if fl pa ca number o g v w (Some x) e told = let a = above fl pa ca number o g v x told.1.0 e told.1.1 in (a.0, a.1)
 
-pub len_if : (fl pa ca number : ℕ) (o g : List Frame) (v w : RingView) (r : Option Frame) → v ≡ knows fl pa ca (pass_frames number o g ∷ []) [] → MatchOption r ((w ≡ v) × Held 0 (RingMoment v)) (λ x. Grabs v x w) → IfSome r (λ x. x.len ≤ BUFFER_BYTES)
+pub len_if : (fl pa ca number : ℕ) (o g : List Frame) (v w : RingView) (r : Option Frame) → v ≡ knows fl pa ca (pass_frames number o g ∷ []) [] → MatchOption r ((w ≡ v) × Held 0 (RingMoment v)) (λ x. Grabs v x w) → IfSome r (λ x. x.len ≤ 262144)
 len_if fl pa ca number o g v w None e told = tt
 len_if fl pa ca number o g v w (Some x) e told = (above fl pa ca number o g v x told.1.0 e told.1.1).2
 
@@ -92,6 +93,31 @@ offer_exact fl pa ca number o g x v w (Ok u) e told one =
 offer_exact fl pa ca number o g x v w (Err y) e told one =
     let held = told.2 in
     ((λ _. ap length (left_from fl pa ca number o g v held.0 e one held.2) ∙ held.1), λ _. refl)
+
+-- whoever else uses the ring: where it held so many frames, pass 0 offered so many that it did not grab
+held_behind : (fl pa ca number : ℕ) (o g items : List Frame) → number ≡ 0 → RingMoment (knows fl pa ca (pass_frames number o g ∷ []) []) items → length items ≤ length (drop (length g) o)
+held_behind fl pa ca number o g items first moment =
+    let views = moment.0 in
+    let i = moment.1.0 in
+    let v = knows fl pa ca (pass_frames number o g ∷ []) [] in
+    let k = is_kept items views i v refl moment.1.1 moment.2 in
+    let split : o ≡ k.popped ++ items = (k.fits i v moment.1.1).own.0.offers first in
+    let weigh : RingView → ℕ = λ u. sum_by (λ (f : Frame). 1) (came_out u) in
+    let kept : total weigh views ≡ length k.popped = k.whole (λ f. 1) ∙ counted k.popped in
+    let mine : weigh v ≡ length g = ap (sum_by (λ (f : Frame). 1)) (append-nil (g ++ []) ∙ append-nil g) ∙ counted g in
+    let none : weigh spent ≡ 0 = refl in
+    let part = total_set weigh views i v spent moment.1.1 in
+    let lengths : length o ≡ length k.popped + length items = ap length split ∙ length-append k.popped items in
+    let left = length-drop (length g) o in
+    omega arith
+
+pub offer_bound : (fl pa ca number : ℕ) (o g : List Frame) (x : Frame) (v w : RingView) (r : Result ⊤ Frame) → v ≡ knows fl pa ca (pass_frames number o g ∷ []) [] → number ≡ 0
+    → MatchResult r (λ _. Offers v x w) (λ y. (y ≡ x) × (w ≡ v) × Held ca (RingMoment v)) → IsErr r → ca ≤ length (drop (length g) o)
+offer_bound fl pa ca number o g x v w (Ok u) e first told failed = cc
+offer_bound fl pa ca number o g x v w (Err y) e first told failed =
+    let held = told.2 in
+    let least = held_behind fl pa ca number o g held.0 first (subst (λ u. RingMoment u held.0) e held.2) in
+    omega (arith, held.1)
 
 drop_next : {X : Type 0} (n : ℕ) (xs : List X) (x : X) (rest : List X) → drop n xs ≡ x ∷ rest → drop (suc n) xs ≡ rest
 drop_next zero xs x rest e = ap (drop 1) e

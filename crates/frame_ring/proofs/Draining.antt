@@ -11,7 +11,6 @@ use native.Mathlib.Decide.{ℕ_discrete}
 use Rattle.crossbeam_queue.specs.Passes.{view}
 use Rattle.crossbeam_queue.specs.Fifo.{Pops, Merges, Held}
 use Rattle.crossbeam_queue.proofs.Lists.{set_here}
-use Rattle.frame_ring.specs.declared.buffer.TheConstants.{BUFFER_BYTES}
 use Rattle.frame_ring.specs.Frame.{Frame}
 use Rattle.frame_ring.specs.declared.pass.Gathered.{Gathered}
 use Rattle.frame_ring.specs.declared.pass.RingPasses.{RingPasses}
@@ -88,7 +87,7 @@ pub record Drained (fl : ℕ) (own : List PassFrames) (before : List Frame) (r :
   pub left : left_of own before ≡ option_to_list r ++ left_of w.own w.drained
   pub none : IsNone r ↔ (left_of own before ≡ [])
   pub above : IfSome r (λ x. fl < x.number)
-  pub short : IfSome r (λ x. x.len ≤ BUFFER_BYTES)
+  pub short : IfSome r (λ x. x.len ≤ 262144)
   pub told : Told fl w.own w.drained (left_of w.own w.drained)
 
 pub drained_as : (fl pa ca : ℕ) (own : List PassFrames) (before : List Frame) (v w : RingView) (r : Option Frame) → v ≡ knows fl pa ca own before → 0 < pa → length own ≡ pa → MatchOption r ((w ≡ v) × Held 0 (RingMoment v)) (λ x. Drains v x w)

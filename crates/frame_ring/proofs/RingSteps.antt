@@ -5,7 +5,6 @@ use Rattle.std.proofs.lemmas.List.Sums.{sum_by-append}
 use mathlib.Core.Option.{some}
 use lib.ListN.{get_elem?}
 use Rattle.crossbeam_queue.specs.Fifo.{Pushes, Pops}
-use Rattle.frame_ring.specs.declared.buffer.TheConstants.{BUFFER_BYTES}
 use Rattle.frame_ring.specs.Frame.{Frame}
 use Rattle.frame_ring.specs.declared.view.PassFrames.{PassFrames}
 use Rattle.frame_ring.specs.declared.view.Stage.TheVariants as stage
@@ -130,7 +129,7 @@ unmarks i x some_pass y items views h at = ⊎_elim
     (λ k. let same = (k.fits i (marked x) at).running in cc)
     h
 
-pub offers : (n i fl pa ca number : ℕ) (o g : List Frame) (x : Frame) → number ≡ 0 → n ≡ ca → last_of fl o < x.number → x.len ≤ BUFFER_BYTES
+pub offers : (n i fl pa ca number : ℕ) (o g : List Frame) (x : Frame) → number ≡ 0 → n ≡ ca → last_of fl o < x.number → x.len ≤ 262144
     → Pushes RingRule n i (knows fl pa ca (pass_frames number o g ∷ []) []) x (Offers (knows fl pa ca (pass_frames number o g ∷ []) []) x)
 offers n i fl pa ca number o g x zero_here size up short items views room h at =
     let v = knows fl pa ca (pass_frames number o g ∷ []) [] in

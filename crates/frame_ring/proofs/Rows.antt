@@ -1,7 +1,6 @@
 -- Frames in the order of their numbers.
 use Rattle.std.proofs.Common.{◌≡◌, ℕ, ◌<◌, ◌≤◌, List, [], ◌∷◌, ◌++◌, All, refl, arith}
 use Rattle.std.proofs.lemmas.List.Elements.{All-nil, All-cons, All-head, All-tail}
-use Rattle.frame_ring.specs.declared.buffer.TheConstants.{BUFFER_BYTES}
 use Rattle.frame_ring.specs.Frame.{Frame}
 use Rattle.frame_ring.specs.Rows.{IsRow, last_of}
 
@@ -13,7 +12,7 @@ pub row_behind : (n : ℕ) (xs ys : List Frame) → IsRow n (xs ++ ys) → IsRow
 row_behind n [] ys h = h
 row_behind n (x ∷ xs) ys h = row_behind x.number xs ys h.2
 
-pub row_push : (n : ℕ) (xs : List Frame) (x : Frame) → IsRow n xs → last_of n xs < x.number → x.len ≤ BUFFER_BYTES → IsRow n (xs ++ x ∷ [])
+pub row_push : (n : ℕ) (xs : List Frame) (x : Frame) → IsRow n xs → last_of n xs < x.number → x.len ≤ 262144 → IsRow n (xs ++ x ∷ [])
 row_push n [] x h lt le = (lt, le, tt)
 row_push n (y ∷ ys) x h lt le = (h.0, h.1, row_push y.number ys x h.2 lt le)
 

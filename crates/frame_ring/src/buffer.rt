@@ -32,11 +32,10 @@ impl Model for Buffer {
     ghost Value = { Frame };
 
     ghost use Rattle.std.specs.Prelude.{◌≡◌, length};
-    ghost use Rattle.frame_ring.specs.declared.buffer.TheConstants.{BUFFER_BYTES};
 
     ghost view = { λ b. record { number = b.number; len = b.len; wire_len = b.wire_len; seconds = b.seconds; part = b.part; nano = b.nano; bytes = b.memory.items } };
 
-    ghost invariant = { λ b. length b.memory.items ≡ BUFFER_BYTES };
+    ghost invariant = { λ b. length b.memory.items ≡ 262144 };
 }
 
 impl Buffer {
@@ -60,7 +59,7 @@ impl Buffer {
     /// All bytes of the buffer, also those behind the frame.
     pub fn bytes(&self) -> &[u8]
         ensures value { result.now ≡ self.now.bytes }
-        ensures len { length result.now ≡ BUFFER_BYTES }
+        ensures len { length result.now ≡ 262144 }
     {
         self.memory.as_slice()
     }
@@ -69,7 +68,7 @@ impl Buffer {
     pub fn bytes_mut(&mut self) -> &mut [u8]
         ensures* lends { sem 𝓛 (Lends the_row (Array u8 0) self.entry result (with_bytes self.old)) }
         ensures value { result.now ≡ self.old.bytes }
-        ensures len { length result.now ≡ BUFFER_BYTES }
+        ensures len { length result.now ≡ 262144 }
     {
         self.memory.as_mut_slice()
     }

@@ -24,9 +24,15 @@
 //! lengths, stamp and bytes.
 //!
 //! **While others use the ring**, a call tells what it did to the account of its pass. A frame is
-//! grabbed with the very bytes with which it was offered, numbers rise for each pass, and `None` or
-//! `Err` comes only where the queue was empty or full at a moment of the call. A queue may be
-//! otherwise again when the call returns; on a ring with one pass all four answers are exact.
+//! grabbed with the very bytes with which it was offered, and numbers rise for each pass. On a ring
+//! with one pass the answers `None` and `Err` are exact.
+//!
+//! **What `None` and `Err` don't promise.** On a ring with several passes they say that the queue was
+//! empty or full in some state that fits the rule and what this pass did. What the others did is not
+//! known to it, so there mostly is such a state: a body that always answers `None`, or always hands a
+//! buffer back, meets these clauses. `Err` of `offer` alone says more, as pass 0 offers all frames:
+//! it has offered at least as many that it didn't grab itself as the ring has room for. Whatever the
+//! answers, no frame and no buffer is lost, and at the end `drain` is exact.
 //!
 //! **At the end** who holds all passes again knows the whole. `drain` joins them, gives what is left
 //! from the oldest on, and answers `None` exactly where nothing is. Then each frame that was offered

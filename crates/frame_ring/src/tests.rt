@@ -87,7 +87,7 @@ fn drain_all<R: Wait>(rt: &R, ring: &mut FrameRing, passes: &mut RingPasses)
 
 #[test]
 fn a_ring_of_one_frame_and_two_buffers(rt: HostRuntime) -> Result<(), Fail> {
-    let (mut ring, mut passes) = FrameRing::new(rt.alloc(), &rt, 1, 2, 1, 0)?;
+    let (mut ring, mut passes) = FrameRing::new(&rt, rt.alloc(), 1, 2, 1, 0)?;
     let mut pass = take_pass(&ring, &mut passes);
     assert!(rt; pass.number == 0);
     let first = ring.take_free(&rt, &mut pass).ok_or("two buffers")?;
@@ -111,7 +111,7 @@ fn a_ring_of_one_frame_and_two_buffers(rt: HostRuntime) -> Result<(), Fail> {
 
 #[test]
 fn what_is_left_is_drained_in_order(rt: HostRuntime) -> Result<(), Fail> {
-    let (mut ring, mut passes) = FrameRing::new(rt.alloc(), &rt, 4, 4, 2, 10)?;
+    let (mut ring, mut passes) = FrameRing::new(&rt, rt.alloc(), 4, 4, 2, 10)?;
     let mut other = take_pass(&ring, &mut passes);
     let mut pass = take_pass(&ring, &mut passes);
     assert!(rt; other.number == 1 && pass.number == 0);

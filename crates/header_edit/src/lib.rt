@@ -47,6 +47,3 @@ pub use frames::apply_frame;
 pub use keys::apply_key;
 pub use laws::{edits_agree, ipv4_sum_is_kept, transport_sum_is_kept};
 pub use sums::sum16;
-
-#[cfg(test)]
-mod tests;

@@ -1,6 +1,5 @@
 //! Bytes of a file that were read ahead, so that a small read costs no call of the system.
 ghost use Rattle.std.specs.Prelude.{◌≡◌, ◌≤◌, ℕ, List, [], length, min, take, drop, ◌↔◌, IsTrue, OnOk, OnErr};
-ghost use Rattle.io_edges.specs.declared.ahead.TheConstants.{ROOM};
 ghost use Rattle.std.specs.Io.KnownBytes.{Consumes, Keeps};
 
 use crate::cursor::copy_from;
@@ -24,7 +23,7 @@ impl Model for Ahead {
 
     ghost view = { λ a. drop a.from (take a.until a.bytes) };
 
-    ghost invariant = { λ a. (a.from ≤ a.until) × (a.until ≤ ROOM) };
+    ghost invariant = { λ a. (a.from ≤ a.until) × (a.until ≤ 32768) };
 }
 
 impl Ahead {

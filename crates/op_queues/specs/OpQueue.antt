@@ -1,7 +1,7 @@
 -- What a contract sees of an `OpQueue`.
 use Rattle.std.specs.Prelude.{ℕ, ◌+◌, Bool, List, [], length}
 
--- how many operations may be in flight; those that are held, the oldest first; how many were
+-- how many operations may be in flight, at most 1024, since one pull answers up to 16 words of 64 results; those that are held, the oldest first; how many were
 -- popped and have no result yet; the results that wait, the oldest first
 pub record Queue (T : Type 0) : Type 0 where
   pub size : ℕ

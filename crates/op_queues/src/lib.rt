@@ -41,11 +41,9 @@
 
 mod op_queue;
 mod outcomes;
-#[cfg(test)]
-mod tests;
 
 pub use op_queue::OpQueue;
 pub use outcomes::Outcomes;
 
-/// The largest size of a queue, and the most results that one pull answers.
+/// The largest size of a queue, and the most results that one pull answers. Contracts say the number.
 pub const MAX_SIZE: u16 = 1024;

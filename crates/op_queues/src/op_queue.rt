@@ -22,20 +22,19 @@ pub struct OpQueue<T> {
 
 impl<T> Model for OpQueue<T> {
     ghost use Rattle.std.specs.Prelude.{◌≡◌, ◌+◌, ◌≤◌, length};
-    ghost use Rattle.op_queues.specs.declared.TheConstants.{MAX_SIZE};
     ghost use Rattle.op_queues.specs.OpQueue.{Queue};
 
     ghost Value = { Queue T };
 
     ghost view = { λ q. record { size = q.size; held = q.held.items; owed = q.owed; results = q.results.items } };
 
-    ghost invariant = { λ q. (q.size ≤ MAX_SIZE) × (q.held.capacity ≡ q.size) × (q.results.capacity ≡ q.size) × (length q.held.items + q.owed + length q.results.items ≤ q.size) };
+    ghost invariant = { λ q. (q.size ≤ 1024) × (q.held.capacity ≡ q.size) × (q.results.capacity ≡ q.size) × (length q.held.items + q.owed + length q.results.items ≤ q.size) };
 }
 
 impl<T> OpQueue<T> {
     /// Makes an empty queue for `size` operations, and takes all its memory.
     pub fn new(alloc: Global, size: u16) -> Result<OpQueue<T>, AllocError>
-        requires { (1 ≤ size) × (size ≤ MAX_SIZE) }
+        requires { (1 ≤ size) × (size ≤ 1024) }
         ensures { IfOk result (λ queue. queue ≡ empty_queue size) }
     {
         let results = HeapCircularBuffer::with_capacity(alloc, size as usize)?;
@@ -52,7 +51,7 @@ impl<T> OpQueue<T> {
     /// owed, and those whose results wait.
     pub fn in_flight(&self) -> u16
         ensures number { result ≡ in_flight self.now }
-        ensures within { (result ≤ self.now.size) × (self.now.size ≤ MAX_SIZE) }
+        ensures within { (result ≤ self.now.size) × (self.now.size ≤ 1024) }
     {
         self.held.len() as u16 + self.owed + self.results.len() as u16
     }
@@ -96,7 +95,7 @@ impl<T> OpQueue<T> {
         ensures outcomes { result ≡ take n self.old.results }
         ensures left { self.new ≡ record self.old { results = drop n self.old.results } }
         ensures all { self.old.size ≤ n → (result ≡ self.old.results) × (self.new.results ≡ []) }
-        ensures within { self.old.size ≤ MAX_SIZE }
+        ensures within { self.old.size ≤ 1024 }
     {
         take_first(&mut self.results, n)
     }
@@ -104,7 +103,7 @@ impl<T> OpQueue<T> {
 
 /// Moves the first `n` results out of the buffer, or all where there are fewer.
 fn take_first(results: &mut HeapCircularBuffer<bool>, n: u16) -> Outcomes
-    requires { length results.old.items ≤ MAX_SIZE }
+    requires { length results.old.items ≤ 1024 }
     ensures outcomes { result ≡ take n results.old.items }
     ensures left { results.new ≡ buffer (drop n results.old.items) results.old.capacity }
 {

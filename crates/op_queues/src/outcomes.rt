@@ -26,14 +26,13 @@ pub struct Outcomes {
 
 impl Model for Outcomes {
     ghost use Rattle.std.specs.Prelude.{◌≤◌, List, Bool};
-    ghost use Rattle.op_queues.specs.declared.TheConstants.{MAX_SIZE};
     ghost use Rattle.op_queues.specs.Outcomes.{outcomes};
 
     ghost Value = { List Bool };
 
     ghost view = { λ o. outcomes o.words o.len };
 
-    ghost invariant = { λ o. o.len ≤ MAX_SIZE };
+    ghost invariant = { λ o. o.len ≤ 1024 };
 }
 
 impl Outcomes {
@@ -49,7 +48,7 @@ impl Outcomes {
     /// Returns the number of outcomes.
     pub fn len(&self) -> usize
         ensures len { result ≡ length self.now }
-        ensures within { result ≤ MAX_SIZE }
+        ensures within { result ≤ 1024 }
     {
         self.len as usize
     }
@@ -64,7 +63,7 @@ impl Outcomes {
 
     /// Appends an outcome.
     pub(crate) fn push(&mut self, ok: bool)
-        requires { length self.old < MAX_SIZE }
+        requires { length self.old < 1024 }
         ensures { self.new ≡ self.old ++ ok ∷ [] }
     {
         write_bit(&mut self.words, self.len as usize, ok);
@@ -109,7 +108,7 @@ impl Eq for Outcomes {
 
 /// Reads bit `i` of the words.
 fn read_bit(words: &[u64; WORDS], i: usize) -> bool
-    requires { i < MAX_SIZE }
+    requires { i < 1024 }
     ensures { result ≡ outcome_at words.now i }
 {
     words[i / WORD_BITS] >> (i % WORD_BITS) & 1 == 1
@@ -117,7 +116,7 @@ fn read_bit(words: &[u64; WORDS], i: usize) -> bool
 
 /// Sets or clears bit `i` of the words.
 fn write_bit(words: &mut [u64; WORDS], i: usize, ok: bool)
-    requires { i < MAX_SIZE }
+    requires { i < 1024 }
     ensures written { outcome_at words.new i ≡ ok }
     ensures others { (k : ℕ) → k ≢ i → outcome_at words.new k ≡ outcome_at words.old k }
 {

@@ -12,7 +12,7 @@ use std::marker::Model;
 const STACK_LAYERS: usize = 5;
 
 /// The most layers of a key: two stacks, and VXLAN between them.
-const MOST_LAYERS: usize = 11;
+const MAX_LAYERS: usize = 11;
 
 /// The headers of a frame, each with its offset.
 #[derive(Copy)]
@@ -53,7 +53,7 @@ impl Key {
     /// How many layers the key holds: at most 11.
     pub fn len(&self) -> usize
         ensures len { result ≡ length self.now }
-        ensures most { result ≤ MOST_LAYERS }
+        ensures most { result ≤ 11 }
     {
         self.layers().len()
     }
@@ -74,7 +74,7 @@ impl Key {
         self.layers()[i].offset
     }
 
-    fn layers(&self) -> ArrayVec<LayerAt, MOST_LAYERS>
+    fn layers(&self) -> ArrayVec<LayerAt, MAX_LAYERS>
         ensures { result.items ≡ self.now }
     {
         let mut list = ArrayVec::new();
@@ -88,8 +88,8 @@ impl Key {
 }
 
 /// Appends the layers of a frame, if there is one.
-fn push_frame(list: &mut ArrayVec<LayerAt, MOST_LAYERS>, frame: &Option<Stack>)
-    requires { array_vec_len list.old + STACK_LAYERS ≤ MOST_LAYERS }
+fn push_frame(list: &mut ArrayVec<LayerAt, MAX_LAYERS>, frame: &Option<Stack>)
+    requires { array_vec_len list.old + STACK_LAYERS ≤ MAX_LAYERS }
     ensures items { list.new.items ≡ list.old.items ++ outer_layers frame.now }
     ensures len { array_vec_len list.new ≤ array_vec_len list.old + STACK_LAYERS }
 {
@@ -101,8 +101,8 @@ fn push_frame(list: &mut ArrayVec<LayerAt, MOST_LAYERS>, frame: &Option<Stack>)
     }
 }
 
-fn push_tags(list: &mut ArrayVec<LayerAt, MOST_LAYERS>, tags: &Tags)
-    requires { array_vec_len list.old + 2 ≤ MOST_LAYERS }
+fn push_tags(list: &mut ArrayVec<LayerAt, MAX_LAYERS>, tags: &Tags)
+    requires { array_vec_len list.old + 2 ≤ MAX_LAYERS }
     ensures items { list.new.items ≡ list.old.items ++ tag_layers tags.now }
     ensures len { array_vec_len list.new ≤ array_vec_len list.old + 2 }
 {
@@ -116,8 +116,8 @@ fn push_tags(list: &mut ArrayVec<LayerAt, MOST_LAYERS>, tags: &Tags)
     }
 }
 
-fn push_network(list: &mut ArrayVec<LayerAt, MOST_LAYERS>, network: &Network)
-    requires { array_vec_len list.old + 1 ≤ MOST_LAYERS }
+fn push_network(list: &mut ArrayVec<LayerAt, MAX_LAYERS>, network: &Network)
+    requires { array_vec_len list.old + 1 ≤ MAX_LAYERS }
     ensures items { list.new.items ≡ list.old.items ++ network_layers network.now }
     ensures len { array_vec_len list.new ≤ array_vec_len list.old + 1 }
 {
@@ -128,8 +128,8 @@ fn push_network(list: &mut ArrayVec<LayerAt, MOST_LAYERS>, network: &Network)
     }
 }
 
-fn push_transport(list: &mut ArrayVec<LayerAt, MOST_LAYERS>, transport: &Transport)
-    requires { array_vec_len list.old + 1 ≤ MOST_LAYERS }
+fn push_transport(list: &mut ArrayVec<LayerAt, MAX_LAYERS>, transport: &Transport)
+    requires { array_vec_len list.old + 1 ≤ MAX_LAYERS }
     ensures items { list.new.items ≡ list.old.items ++ transport_layers transport.now }
     ensures len { array_vec_len list.new ≤ array_vec_len list.old + 1 }
 {

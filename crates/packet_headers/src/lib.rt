@@ -51,6 +51,3 @@ pub use items::{ItemKind, Layer, LayerAt};
 pub use keys::Key;
 pub use reading::parse;
 pub use stacks::{Network, Stack, Tags, Transport, Tunnel};
-
-#[cfg(test)]
-mod tests;

@@ -67,6 +67,3 @@ pub use fault::ItemFault;
 pub use pattern::{Fields, Item, MAX_ITEMS, Pattern};
 pub use shape::Shape;
 pub use test::Test;
-
-#[cfg(test)]
-mod tests;

@@ -40,8 +40,6 @@ mod chain;
 mod handle;
 mod place;
 mod pool;
-#[cfg(test)]
-mod tests;
 
 pub use chain::Chain;
 pub use handle::Handle;

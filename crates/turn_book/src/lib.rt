@@ -40,8 +40,6 @@ mod book;
 mod entries;
 mod rule;
 mod seat;
-#[cfg(test)]
-mod tests;
 mod turn;
 mod view;
 

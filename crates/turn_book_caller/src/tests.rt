@@ -18,25 +18,42 @@ fn are_in_order(entries: &[Entry], seat: u32) -> bool {
     next == TURNS
 }
 
+fn crosses<T: Send>(_value: &T) {}
+
 fn is_shared<T: Sync>(_value: &T) {}
 
-// Threads may share what a log's callers hold.
-fn are_shared(book: &Book<Log>, seat: &Seat<Log>, seats: &SeatList<Log>) {
+// Each goes to another thread, and threads may share each.
+fn all_cross(book: &Book<Log>, seat: &Seat<Log>, seats: &SeatList<Log>) {
+    crosses(book);
     is_shared(book);
+    crosses(seat);
     is_shared(seat);
+    crosses(seats);
     is_shared(seats);
 }
 
 #[test]
-fn a_log_and_its_seats_may_be_shared(rt: HostRuntime) -> Result<(), Fail> {
+fn a_list_takes_as_many_seats_as_it_was_made_with(rt: HostRuntime) -> Result<(), Fail> {
     let log = Log {
         entries: Vec::new(rt.alloc()),
     };
     let (book, mut seats) = Book::new(rt.alloc(), log, 1).ok().ok_or("memory")?;
     let seat = seats.pop().ok_or("one seat")?;
-    are_shared(&book, &seat, &seats);
+    assert!(rt; seats.pop().is_none());
+    assert!(rt; seat.number() == 0 && seat.turns_left() == 4_294_967_296);
+    all_cross(&book, &seat, &seats);
     assert!(rt; seats.push(seat).is_ok());
     drop(book);
+    Ok(())
+}
+
+#[test]
+fn a_closed_book_gives_its_value_back(rt: HostRuntime) -> Result<(), Fail> {
+    let entries = [Entry { by: 7, value: 1 }].to_vec(rt.alloc())?;
+    let Ok((book, seats)) = Book::new(rt.alloc(), Log { entries }, 1) else {
+        panic!(rt; "there was no memory")
+    };
+    assert!(rt; book.close(seats).entries.len() == 1);
     Ok(())
 }
 

@@ -6,7 +6,7 @@ ghost use Rattle.frame_ring.specs.Views.{knows, counts};
 ghost use Rattle.frame_ring.specs.Passes.{frames_of, counts_of, passes_in, limit_of, gathered, kept_in, frames_in, counts_in, drained_in, left_in};
 ghost use Rattle.frame_ring.specs.Rings.{floor_of, passes_of, capacity_of, buffers_of, IsPassOf, AreAllOf, IsGatheredOf, WasDrained, IsWhole, IsOnce, IsSettled, AreRows, IsBalanced};
 
-use crate::buffer::{BUFFER_BYTES, Buffer};
+use crate::buffer::Buffer;
 use crate::pass::{Gathered, RingPass, RingPasses};
 use crate::ring::FrameRing;
 use crate::rule::{Drain, Gather, Spare};
@@ -24,7 +24,7 @@ impl FrameRing {
         ensures left { left_in passes.old ≡ option_to_list result ++ left_in passes.new }
         ensures none { IsNone result ↔ (left_in passes.old ≡ []) }
         ensures above { IfSome result (λ frame. floor_of self.old < frame.number) }
-        ensures len { IfSome result (λ frame. frame.len ≤ BUFFER_BYTES) }
+        ensures len { IfSome result (λ frame. frame.len ≤ 262144) }
         ensures whole { IsWhole passes.new }
         ensures once { IsOnce passes.new }
         ensures settled { IsNone result → IsSettled passes.new }

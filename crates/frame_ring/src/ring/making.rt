@@ -24,8 +24,8 @@ impl FrameRing {
     /// 0 in the list's order. The numbers of its frames are to be above `floor`. `Err` comes only
     /// from want of memory.
     pub fn new<R: Wait>(
-        alloc: Global,
         rt: &R,
+        alloc: Global,
         capacity: u32,
         buffers: u32,
         passes: u32,
@@ -41,7 +41,7 @@ impl FrameRing {
         let items = Vec::with_capacity(alloc, passes as usize)?;
         let (ring, mut in_ring) = RuledArrayQueue::ruled(alloc, capacity as usize)?;
         let (free, mut in_free) = RuledArrayQueue::ruled(alloc, buffers as usize)?;
-        fill(alloc, rt, &free, &mut in_free, buffers - 1)?;
+        fill(rt, alloc, &free, &mut in_free, buffers - 1)?;
         let mut marker = Buffer::zeroed(alloc)?;
         marker.number = floor;
         marker.wire_len = capacity;
@@ -98,8 +98,8 @@ impl FrameRing {
 
 // Puts so many new buffers into the free queue.
 fn fill<R: Wait>(
-    alloc: Global,
     rt: &R,
+    alloc: Global,
     free: &RuledArrayQueue<Buffer, FreeView, Spare>,
     pass: &mut Pass<Buffer, FreeView>,
     count: u32,

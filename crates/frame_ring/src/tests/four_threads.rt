@@ -183,7 +183,7 @@ fn hand_in_one(ring: &FrameRing, passes: &mut RingPasses, hand: Hand) -> u64
 
 #[test]
 fn all_frames_of_four_threads_are_grabbed(rt: HostRuntime) -> Result<(), Fail> {
-    let (mut ring, mut passes) = FrameRing::new(rt.alloc(), &rt, 8, 8, 4, 0)?;
+    let (mut ring, mut passes) = FrameRing::new(&rt, rt.alloc(), 8, 8, 4, 0)?;
     let mut hands = new_hands(&ring, &mut passes);
     act_all(&rt, &ring, &mut hands);
     let sum = hand_in_all(&ring, &mut passes, hands);
