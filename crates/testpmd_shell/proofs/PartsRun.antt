@@ -1,5 +1,5 @@
 -- A part of a program, and all of them, out of what is asked and taken.
-use Rattle.std.proofs.Common.{◌≡◌, ℕ, ◌+◌, ◌<◌, ◌≤◌, Bool, true, false, ◌||◌, List, [], ◌∷◌, ◌++◌, length, take, drop, Option, None, Some, refl, sym, ap, ◌∙◌, subst, append_assoc, append-nil, add-zero, length-append, arith, nat_lt}
+use Rattle.std.proofs.Common.{◌≡◌, ℕ, ◌+◌, ◌≤◌, Bool, true, false, ◌||◌, List, [], ◌∷◌, ◌++◌, length, take, drop, Option, None, Some, refl, sym, ap, ◌∙◌, subst, append_assoc, append-nil, add-zero, length-append, arith, nat_lt}
 use Rattle.std.proofs.Math.Seq.{take-append_seam, drop-append_seam}
 use Rattle.std.proofs.lemmas.Bool.{lt-ltb, le-ltb}
 use Rattle.std.proofs.lemmas.Grind.{common_steps}
@@ -14,8 +14,7 @@ use Rattle.flow_grammar.specs.declared.part.Part.TheVariants.{Section, Phase}
 use Rattle.whole_history.specs.Reach.{first, behind_first, asks_stop, left_by, taken_by, part_asks_stop, program_asks_stop}
 use Rattle.whole_history.specs.Serial.{asks_of, all_asks_of, passes_of, in_turn, part_of, serial_from}
 use Rattle.testpmd_shell.specs.declared.feed.Feed.{Feed}
-use Rattle.testpmd_shell.specs.Feed.{HasRead}
-use Rattle.testpmd_shell.specs.Phase.{IsFull, TakesMore, Takes}
+use Rattle.testpmd_shell.specs.Phase.{IsFull, Takes}
 use Rattle.testpmd_shell.specs.Parts.{ended_in, taken_in, WasRead, MayRemain, TakesIn, RunsPart, PartsToGo, RunsParts}
 
 -- ---- the frames of a phase, whatever stands behind them
@@ -68,7 +67,7 @@ pub TakesIn-takes : (count : Option ℕ) (feed feed' : Feed) (state' : ShelfStat
 TakesIn-takes count feed feed' state' content frames before after took =
     let more = took.takes.more in
     let whole = λ (rest : List Frame) (may : MayRemain feed'.reader.ended rest).
-        full count more rest feed.reader.ended feed'.reader.ended took.full (λ e. (took.takes.none e).1) may in
+    full count more rest feed.reader.ended feed'.reader.ended took.full (λ e. (took.takes.none e).1) may in
     record {
       more = more;
       kept = refl;
@@ -98,6 +97,7 @@ TakesIn-none count state' content frames before none = record {
   nothing : (count : Option ℕ) → first count [] ≡ []
   nothing None = refl
   nothing (Some n) = take-short n [] (omega arith)
+
   nothing_left : (count : Option ℕ) → behind_first count [] ≡ []
   nothing_left None = refl
   nothing_left (Some n) = drop-short n [] (omega arith)
@@ -210,7 +210,7 @@ PartsToGo-next parts part others start feed feed' state state' content frames be
     let more = ran.more in
     let number = taken_in feed + 1 in
     let may' = λ (rest : List Frame) (may : MayRemain (ended_in feed') rest) (ended : ended_in feed ≡ true).
-        let none = ran.none ended in no_more more rest (may none.1) ∙ none.0 in
+    let none = ran.none ended in no_more more rest (may none.1) ∙ none.0 in
     record {
       more = go.more ++ more;
       kept = ran.kept ∙ go.kept;
@@ -220,9 +220,9 @@ PartsToGo-next parts part others start feed feed' state state' content frames be
           let left : left_by part fs ≡ rest = ran.left rest may in
           let added = part_of L number fs part mid.history in
           let grew : after.history ≡ mid.history ++ added =
-              (ran.grows rest may).history ∙ ap (λ l. mid.history ++ part_of l number fs part mid.history) limits in
+          (ran.grows rest may).history ∙ ap (λ l. mid.history ++ part_of l number fs part mid.history) limits in
           let count : number + length (taken_by part fs) ≡ taken_in feed' + 1 =
-              let counted = ran.counted in omega (arith, ap length (ran.taken rest may)) in
+          let counted = ran.counted in omega (arith, ap length (ran.taken rest may)) in
           ap (λ l. before.history ++ serial_from L (taken_in start + 1) l parts before.history) (append_assoc go.more more rest)
           ∙ go.history fs (may' rest may)
           ∙ sym (append_assoc mid.history added (serial_from L (number + length (taken_by part fs)) (left_by part fs) others (mid.history ++ added)))

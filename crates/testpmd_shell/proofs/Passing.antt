@@ -2,7 +2,6 @@
 use Rattle.std.proofs.Common.{◌≡◌, ℕ, ◌+◌, ◌-◌, ◌<◌, ◌≤◌, Bool, true, false, List, [], ◌∷◌, ◌++◌, length, take, Option, None, Some, refl, sym, ap, ◌∙◌, subst, append_assoc, append-nil, add-zero, length-append, arith, inl, inr, eqb}
 use Rattle.std.specs.Prelude.{◌⊎◌}
 use Rattle.std.proofs.lemmas.Bool.Decides.{nat_tests}
-use Rattle.packet_headers.specs.Layers.{layers}
 use Rattle.capture_files.specs.Record.{Frame}
 use Rattle.io_edges.specs.ShelfState.{SlotState}
 use Rattle.adapter.specs.declared.entry.Entry.{Entry}
@@ -15,7 +14,7 @@ use Rattle.whole_history.specs.Serial.{caller_at, passes_of}
 use Rattle.whole_history.proofs.Extending.{passes_of-last}
 use Rattle.testpmd_shell.specs.declared.feed.Feed.{Feed}
 use Rattle.testpmd_shell.specs.Feed.{HasRead, ReadsOn}
-use Rattle.testpmd_shell.specs.Phase.{parcel_at, is_spent, one_less, IsLeftOf, IsFull, TakesMore, GoesOn, Takes}
+use Rattle.testpmd_shell.specs.Phase.{parcel_at, is_spent, one_less, IsLeftOf, IsFull, GoesOn, Takes}
 
 -- nothing was taken so far
 pub GoesOn-none : (count : Option ℕ) (feed : Feed) (slot : SlotState) (content : List ℕ) (frames : List Frame) (before : Seen)
@@ -49,11 +48,11 @@ grows-next before mid after number number' more frame bytes grew shown counted e
     let passed = λ (l : Limits) (h : List Entry) (p : Parcel). passed_by l h (caller_at 9) p in
     let others = passes_of before.limits number more before.history in
     let same : parcel_at number' bytes ≡ parcel_of (number + length more) frame =
-        ap (λ n. parcel_at n bytes) counted ∙ ap (parcel_at (number + length more)) (sym shown) in
+    ap (λ n. parcel_at n bytes) counted ∙ ap (parcel_at (number + length more)) (sym shown) in
     let entry : passed mid.limits mid.history (parcel_at number' bytes) ≡ passed before.limits (before.history ++ others) (parcel_of (number + length more) frame) =
-        ap (λ l. passed l mid.history (parcel_at number' bytes)) grew.limits
-        ∙ ap (λ h. passed before.limits h (parcel_at number' bytes)) grew.history
-        ∙ ap (passed before.limits (before.history ++ others)) same in
+    ap (λ l. passed l mid.history (parcel_at number' bytes)) grew.limits
+    ∙ ap (λ h. passed before.limits h (parcel_at number' bytes)) grew.history
+    ∙ ap (passed before.limits (before.history ++ others)) same in
     record {
       limits = enters.limits ∙ grew.limits;
       history = enters.history ∙ ap (λ e. mid.history ++ e ∷ []) entry
@@ -92,14 +91,15 @@ IsFull-here None left taken ended ended' same remains (inr spent) = absurd (neve
 IsFull-here (Some n) left taken ended ended' same remains (inl at_end) = (remains.0, λ e. absurd (apart e), λ e e'. absurd (other e)) where
   apart : ended' ≡ false → ⊥
   apart e = cc
+
   other : ended ≡ false → ⊥
   other e = cc
 IsFull-here (Some n) left taken ended ended' same remains (inr spent) =
     let none : eqb (n - taken) 0 ≡ true = subst (λ o. is_spent o ≡ true) remains.1 spent in
     let all : n ≤ taken = grind (arith, nat_tests) in
     (remains.0, λ e. omega arith, λ e e'. absurd (apart e e')) where
-  apart : ended ≡ false → ended' ≡ true → ⊥
-  apart e e' = cc
+      apart : ended ≡ false → ended' ≡ true → ⊥
+      apart e e' = cc
 
 IsFull-ended : (count left : Option ℕ) (taken : ℕ) (ended ended' : Bool) → ended' ≡ true → IsLeftOf count taken left → is_spent left ≡ false → IsFull count taken ended ended'
 IsFull-ended None left taken ended ended' at_end remains unspent = at_end
@@ -107,8 +107,8 @@ IsFull-ended (Some n) left taken ended ended' at_end remains unspent =
     let some : eqb (n - taken) 0 ≡ false = subst (λ o. is_spent o ≡ false) remains.1 unspent in
     let room : taken < n = grind (arith, nat_tests) in
     (remains.0, λ e. absurd (apart e), λ e e'. room) where
-  apart : ended' ≡ false → ⊥
-  apart e = cc
+      apart : ended' ≡ false → ⊥
+      apart e = cc
 
 -- the phase has all its frames, or the capture had ended before it
 pub Takes-here : (count left : Option ℕ) (start feed : Feed) (slot : SlotState) (content : List ℕ) (frames : List Frame) (before after : Seen)

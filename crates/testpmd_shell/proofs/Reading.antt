@@ -41,9 +41,9 @@ grew : (given left given' left' : Option (List ℕ)) (more : List ℕ) (a : Spli
     → joined given' left' ≡ joined given left → Consumes left left' more → b.gone ≡ a.gone ++ more
 grew given left given' left' more a b same consumed =
     let known : a.rest ≡ more ++ b.rest =
-        subst (λ x. Consumes (Some a.rest) x more) b.left_is (subst (λ x. Consumes x left' more) a.left_is consumed) in
+    subst (λ x. Consumes (Some a.rest) x more) b.left_is (subst (λ x. Consumes x left' more) a.left_is consumed) in
     let all : b.gone ++ b.rest ≡ a.gone ++ a.rest =
-        same_some (b.gone ++ b.rest) (a.gone ++ a.rest) (joined given' left') (joined-splits given' left' b) (same ∙ joined-splits given left a) in
+    same_some (b.gone ++ b.rest) (a.gone ++ a.rest) (joined given' left') (joined-splits given' left' b) (same ∙ joined-splits given left a) in
     append_cancel_right b.gone (a.gone ++ more) b.rest (all ∙ ap (λ l. a.gone ++ l) known ∙ sym (append_assoc a.gone more b.rest))
 
 -- what a loan of the slot tells of it

@@ -1,26 +1,23 @@
 -- A run of the files, out of the run of its parts.
-use Rattle.std.proofs.Common.{◌≡◌, ℕ, ◌+◌, ◌-◌, ◌^◌, ◌<◌, ◌≤◌, Bool, true, false, ◌||◌, cond, List, [], ◌∷◌, ◌++◌, length, nat_lt, Option, None, Some, IfSome, is_some, option_and_then, refl, sym, ap, ◌∙◌, subst, append-nil, arith}
+use Rattle.std.proofs.Common.{◌≡◌, ℕ, ◌+◌, ◌-◌, ◌^◌, ◌<◌, Bool, true, false, ◌||◌, cond, List, [], ◌++◌, nat_lt, Option, None, Some, IfSome, option_and_then, refl, sym, ap, ◌∙◌, subst, append-nil, arith}
 use Rattle.std.specs.Option.{option_map}
 use Rattle.std.proofs.lemmas.Bool.{lt-ltb, le-ltb}
 use Rattle.capture_files.specs.Capture.{Capture, capture}
 use Rattle.capture_files.specs.Record.{Frame}
 use Rattle.capture_files.specs.Reader.{rest_of, told}
-use Rattle.capture_files.specs.declared.stop.Stop.{Stop}
 use Rattle.io_edges.specs.ShelfState.{ShelfState, SlotState}
-use Rattle.adapter.specs.declared.entry.Entry.{Entry}
 use Rattle.adapter.specs.Seen.{Seen}
-use Rattle.flow_rules.specs.declared.limits.Limits.{Limits}
 use Rattle.flow_grammar.specs.declared.part.Part.{Part}
 use Rattle.flow_grammar.specs.Program.{program_of}
 use Rattle.whole_history.specs.Reach.{program_asks_stop}
-use Rattle.whole_history.specs.Serial.{serial_from, serial}
+use Rattle.whole_history.specs.Serial.{serial_from}
 use Rattle.history_text.specs.declared.ending.Ending.{Ending}
 use Rattle.history_text.specs.declared.ending.Ending.TheVariants as endings
 use Rattle.testpmd_shell.specs.declared.feed.Feed.{Feed}
 use Rattle.testpmd_shell.specs.Options.{Given}
-use Rattle.testpmd_shell.specs.Feed.{IsReady, HasRead, HasEnded, IsFaultOf, CarriesFault, in_front}
+use Rattle.testpmd_shell.specs.Feed.{IsReady, HasRead, HasEnded, IsFaultOf, CarriesFault}
 use Rattle.testpmd_shell.specs.Parts.{IsOpen, WasRead, MayRemain, RunsParts, StartsOver, ended_in, ending_in, taken_in}
-use Rattle.testpmd_shell.specs.Found.{Supply, Found, ending_at, supply_of, supply_until_fault, supply_by, supply_in, no_supply, found_by, found_in, limits_of, asks_for_more, ending_of}
+use Rattle.testpmd_shell.specs.Found.{Supply, ending_at, supply_of, supply_until_fault, supply_by, supply_in, no_supply, found_by, limits_of}
 use Rattle.testpmd_shell.specs.Fetch.{Runs}
 
 -- What phases found of the capture: the frames that were taken, and what remains behind them.
@@ -121,7 +118,7 @@ Runs-supplied : (given : Given) (script : List ℕ) (supply : Supply) (s t : She
 Runs-supplied given script supply s t start feed content opened after limits empty none running ran found calm =
     let program = program_of script in
     let asks : program_asks_stop program supply.frames ≡ ended_in feed =
-        ap (program_asks_stop program) found.frames ∙ ap (λ b. b || program_asks_stop program (ran.more ++ found.rest)) (sym running) ∙ ran.asked found.rest found.may in
+    ap (program_asks_stop program) found.frames ∙ ap (λ b. b || program_asks_stop program (ran.more ++ found.rest)) (sym running) ∙ ran.asked found.rest found.may in
     record {
       history = ran.history found.rest found.may
           ∙ ap (λ h. h ++ serial_from opened.limits (taken_in start + 1) (ran.more ++ found.rest) program h) empty
@@ -131,14 +128,15 @@ Runs-supplied given script supply s t start feed content opened after limits emp
       ends = by (ended_in feed) refl asks;
       asked = λ rose. by_asked (ended_in feed) refl asks rose;
     } where
-  by : (b : Bool) → ended_in feed ≡ b → program_asks_stop (program_of script) supply.frames ≡ ended_in feed
-      → ending_in feed ≡ cond (program_asks_stop (program_of script) supply.frames) supply.ending endings.Whole
-  by true e asks = sym (found.behind e) ∙ sym (ap (λ b. cond b supply.ending endings.Whole) (asks ∙ e))
-  by false e asks = found.open_still e ∙ sym (ap (λ b. cond b supply.ending endings.Whole) (asks ∙ e))
-  by_asked : (b : Bool) → ended_in feed ≡ b → program_asks_stop (program_of script) supply.frames ≡ ended_in feed
-      → s.capture.faults < t.capture.faults → program_asks_stop (program_of script) supply.frames ≡ true
-  by_asked true e asks rose = asks ∙ e
-  by_asked false e asks rose = let same = calm (found.open_still e) in absurd (omega arith)
+      by : (b : Bool) → ended_in feed ≡ b → program_asks_stop (program_of script) supply.frames ≡ ended_in feed
+          → ending_in feed ≡ cond (program_asks_stop (program_of script) supply.frames) supply.ending endings.Whole
+      by true e asks = sym (found.behind e) ∙ sym (ap (λ b. cond b supply.ending endings.Whole) (asks ∙ e))
+      by false e asks = found.open_still e ∙ sym (ap (λ b. cond b supply.ending endings.Whole) (asks ∙ e))
+
+      by_asked : (b : Bool) → ended_in feed ≡ b → program_asks_stop (program_of script) supply.frames ≡ ended_in feed
+          → s.capture.faults < t.capture.faults → program_asks_stop (program_of script) supply.frames ≡ true
+      by_asked true e asks rose = asks ∙ e
+      by_asked false e asks rose = let same = calm (found.open_still e) in absurd (omega arith)
 
 -- without a capture
 Runs-without : (given : Given) (script : List ℕ) (s t : ShelfState) (opened after : Seen)

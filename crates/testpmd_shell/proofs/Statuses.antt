@@ -1,6 +1,6 @@
 -- What the statuses say, out of what the calls below say.
-use Rattle.std.proofs.Common.{◌≡◌, ℕ, ◌+◌, ◌-◌, ◌^◌, ◌<◌, true, false, Bool, cond, List, Option, None, Some, IfSome, refl, sym, ap, ◌∙◌, subst, arith, inl, inr}
-use Rattle.std.specs.Prelude.{◌⊎◌, ◌↔◌}
+use Rattle.std.proofs.Common.{◌≡◌, ℕ, ◌-◌, ◌^◌, ◌<◌, true, false, Bool, cond, List, Option, None, Some, IfSome, refl, sym, ap, ◌∙◌, subst, arith, inl, inr}
+use Rattle.std.specs.Prelude.{◌⊎◌}
 use Rattle.std.specs.Io.KnownBytes.{Appends}
 use Rattle.io_edges.specs.ShelfState.{ShelfState, read_faults}
 use Rattle.io_edges.specs.Front.{TakesFront}
@@ -10,20 +10,17 @@ use Rattle.adapter.specs.Seen.{Seen}
 use Rattle.flow_rules.specs.declared.limits.Limits.{Limits}
 use Rattle.flow_grammar.specs.declared.part.Part.{Part}
 use Rattle.flow_grammar.specs.Program.{program_of}
-use Rattle.whole_history.specs.Serial.{serial}
 use Rattle.history_text.specs.declared.ending.Ending.{Ending}
 use Rattle.history_text.specs.declared.ending.Ending.TheVariants as endings
 use Rattle.history_text.specs.Text.{text_of}
-use Rattle.testpmd_shell.specs.declared.fetch.Stopped.{Stopped}
-use Rattle.testpmd_shell.specs.declared.fetch.Stopped.TheVariants as stopped
 use Rattle.testpmd_shell.specs.declared.status.Status.{Status}
 use Rattle.testpmd_shell.specs.declared.status.Status.TheVariants as status
 use Rattle.testpmd_shell.specs.Options.{Given}
 use Rattle.testpmd_shell.specs.Feed.{IsFaultOf}
 use Rattle.testpmd_shell.specs.Run.{Edges, early_faults}
-use Rattle.testpmd_shell.specs.Found.{Found, Supply, found_by, found_in, supply_in, limits_of, is_over, asks_for_more, ending_of, status_at, due_status}
+use Rattle.testpmd_shell.specs.Found.{Found, Supply, found_by, found_in, supply_in, limits_of, is_over, ending_of, status_at, due_status}
 use Rattle.testpmd_shell.specs.Fetch.{Runs, HasRun, IsTold}
-use Rattle.testpmd_shell.specs.Session.{IsSerial, IsEndOf, Wrote, IsStatusOf, Tells, Ends, IsWhy, Stops, SaysBy, CompletesBy, IsTooLargeBy, IsSizedFirst}
+use Rattle.testpmd_shell.specs.Session.{IsSerial, IsEndOf, Wrote, IsStatusOf, Tells, Ends, IsWhy, SaysBy, CompletesBy, IsTooLargeBy}
 
 IfSome-weaker : {X : Type 0} (o : Option X) (P Q : X → Type 0) → ((x : X) → P x → Q x) → IfSome o P → IfSome o Q
 IfSome-weaker None P Q weaker p = tt

@@ -1,8 +1,5 @@
 -- The capture as phases take it: its reader, how many frames were taken, a buffer for one frame, and how it ended.
-use Rattle.std.specs.Prelude.{◌≡◌, ℕ, ◌+◌, ◌≤◌, Bool, true, false, not, List, [], ◌∷◌, ◌++◌, length, take, Option, None, Some, is_some}
-use Rattle.capture_files.specs.declared.reader.Next.{Next}
-use Rattle.capture_files.specs.declared.reader.Next.TheVariants as answers
-use Rattle.capture_files.specs.declared.stop.Stop.{Stop}
+use Rattle.std.specs.Prelude.{◌≡◌, ℕ, ◌+◌, ◌≤◌, true, false, List, [], ◌∷◌, ◌++◌, length, take, Option, None, Some, is_some}
 use Rattle.capture_files.specs.declared.stop.Stop.TheVariants as stops
 use Rattle.capture_files.specs.Capture.{Capture, capture}
 use Rattle.capture_files.specs.Record.{Frame}
@@ -10,7 +7,7 @@ use Rattle.capture_files.specs.Reader.{rest_of, told}
 use Rattle.history_text.specs.declared.ending.Ending.{Ending}
 use Rattle.history_text.specs.declared.ending.Ending.TheVariants as endings
 use Rattle.io_edges.specs.Faults.{Rose}
-use Rattle.io_edges.specs.ShelfState.{ShelfState, SlotState}
+use Rattle.io_edges.specs.ShelfState.{SlotState}
 use Rattle.testpmd_shell.specs.declared.feed.Feed.{Feed}
 
 -- The buffer holds any frame, of which the longest has 262,144 bytes. While the reader runs its frames are counted, and

@@ -1,11 +1,10 @@
 -- What opening and reading the files says, and the run behind it.
-use Rattle.std.specs.Prelude.{◌≡◌, ℕ, ◌<◌, true, false, List, length, Option, Some, None, IfSome}
+use Rattle.std.specs.Prelude.{◌≡◌, ℕ, ◌<◌, true, false, List, length, Option, IfSome}
 use Rattle.std.specs.Io.KnownBytes.{Appends}
 use Rattle.io_edges.specs.Front.{TakesFront}
 use Rattle.io_edges.specs.ShelfState.{ShelfState}
 use Rattle.history_text.specs.Text.{text_of}
 use Rattle.adapter.specs.Seen.{Seen}
-use Rattle.flow_rules.specs.declared.limits.Limits.{Limits}
 use Rattle.flow_grammar.specs.Program.{program_of}
 use Rattle.whole_history.specs.Serial.{serial}
 use Rattle.history_text.specs.declared.ending.Ending.{Ending}

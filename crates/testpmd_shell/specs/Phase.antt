@@ -1,5 +1,5 @@
 -- The frames of a phase, and what a phase takes whatever frames stand behind them.
-use Rattle.std.specs.Prelude.{◌≡◌, ℕ, ◌+◌, ◌-◌, ◌<◌, ◌≤◌, ◌==◌, Bool, true, false, List, [], ◌∷◌, ◌++◌, length, Option, None, Some}
+use Rattle.std.specs.Prelude.{◌≡◌, ℕ, ◌+◌, ◌-◌, ◌<◌, ◌≤◌, ◌==◌, Bool, true, false, List, [], ◌++◌, length, Option, None, Some}
 use Rattle.packet_headers.specs.Layers.{layers}
 use Rattle.capture_files.specs.Record.{Frame}
 use Rattle.io_edges.specs.ShelfState.{SlotState}

@@ -24,10 +24,7 @@ pub(crate) fn ask_all(
 }
 
 /// Asks the calls of the agents of all flow queues, by number.
-pub(crate) fn ask_agents(
-    adapter: &mut Adapter,
-    agents: &[CallList; 8],
-) -> Result<(), AllocError>
+pub(crate) fn ask_agents(adapter: &mut Adapter, agents: &[CallList; 8]) -> Result<(), AllocError>
     ensures asks { OnOk result (Grows adapter.old adapter.new (all_asks_of adapter.old.limits 1 agents.now adapter.old.history)) }
     ensures limits { adapter.new.limits ≡ adapter.old.limits }
 {

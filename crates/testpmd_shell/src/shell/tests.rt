@@ -290,11 +290,7 @@ fn a_read_of_the_capture_that_fails_gives_the_frames_before_it(
 ) -> Result<(), AllocError> {
     let script = one_phase(rt.alloc())?;
     let three = capture(rt.alloc(), &UDP_FRAME, 3)?;
-    let text = with_line(
-        rt.alloc(),
-        ONE_RULE_TWO_FRAMES,
-        "capture: read fault\n",
-    )?;
+    let text = with_line(rt.alloc(), ONE_RULE_TWO_FRAMES, "capture: read fault\n")?;
     let mut failing = Case::of(&TWO_QUEUES, &script, &three);
     failing.capture_at = Some(176);
     failing.expect_both(

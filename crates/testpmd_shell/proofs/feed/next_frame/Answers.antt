@@ -1,4 +1,4 @@
-use Rattle.std.proofs.Common.{◌≡◌, ℕ, ◌≤◌, List, ◌++◌, length, take, drop, refl, sym, subst, ap, ◌∙◌, arith}
+use Rattle.std.proofs.Common.{◌≡◌, ℕ, List, ◌++◌, length, take, drop, refl, sym, subst, ap, ◌∙◌, arith}
 use lib.Seq.{take-append_seam}
 use Rattle.capture_files.specs.Reader.{shown_frame}
 use Rattle.std.specs.Prelude.{Option, None, Some, is_some, IsSome, true}
@@ -26,7 +26,7 @@ returns-in-Frame-clause-reads g c content frames has = (
   shown_frame c.in-Frame.len c.in-Frame.wire_len c.in-Frame.stamp c.next_record.new.buffer,
   front-lent c.next_record.new.buffer c.args.feed.now.buffer.items c.in-Frame.len c.args.feed.now.buffer.len (omega (arith, c.deref_mut.ensures.len, c.next_record.auto.buffer)),
   HasRead-frame c.args.feed.now _ (g.S.Shelf.state c.args.shelf.now).capture (g.S.Shelf.state c.next_record.new.shelf).capture content frames _ has c.requires.running c.in-Frame.ensures.ended
-  (lends c.in-Frame.ensures.keeps) (c.in-Frame.ensures.rest (is_some-told _ has.known)) c.in-Frame.ensures.given,
+      (lends c.in-Frame.ensures.keeps) (c.in-Frame.ensures.rest (is_some-told _ has.known)) c.in-Frame.ensures.given,
 )
 
 pub returns-in-ReadFault-clause-reads : goal.returns-in-ReadFault-clause-reads

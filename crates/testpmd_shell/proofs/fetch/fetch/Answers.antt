@@ -1,4 +1,4 @@
-use Rattle.std.proofs.Common.{◌≡◌, ◌+◌, ◌∙◌, [], List, ℕ, IfSome, sym, ap, subst}
+use Rattle.std.proofs.Common.{◌≡◌, ◌+◌, ◌∙◌, List, ℕ, IfSome, sym, ap, subst}
 use Rattle.capture_files.specs.Record.{Frame}
 use Rattle.io_edges.specs.ShelfState.{SlotState}
 use Rattle.adapter.specs.Seen.{Seen}
@@ -27,8 +27,8 @@ returns-clause-ran g c =
     let after = c.run_parts.new.adapter in
     let ends : c.ending_of-ending.result ≡ ending_in feed = c.ending_of-ending.ensures in
     let fault : IsFaultOf (ending_in feed) s.capture.faults t.capture.faults =
-        HasRun-fault given.capture start feed s1 s2 s.capture.faults s2.capture.faults t.capture.faults c.in_ok-feed.ensures.starts
-        (c.in_ok-feed.ensures.faults ∙ ap (λ (slot : SlotState). slot.faults) c.in_ok-program.ensures.others.capture) c.in_ok-run_parts.ensures.fault in
+    HasRun-fault given.capture start feed s1 s2 s.capture.faults s2.capture.faults t.capture.faults c.in_ok-feed.ensures.starts
+    (c.in_ok-feed.ensures.faults ∙ ap (λ (slot : SlotState). slot.faults) c.in_ok-program.ensures.others.capture) c.in_ok-run_parts.ensures.fault in
     let limits = ap (λ (a : Seen). a.limits) c.in_ok-adapter.ensures in
     let empty = ap (λ (a : Seen). a.history) c.in_ok-adapter.ensures in
     record {

@@ -26,8 +26,11 @@ pub returns-clause-starts : goal.returns-clause-starts
 returns-clause-starts g c =
     let before = g.S.Shelf.state c.args.shelf.now in
     let slot = (g.S.Shelf.state c.open_read.new.self).capture in
-    subst (λ (n : Option (List ℕ)). StartsOver n (Some (record { reader = c.new.result; taken = 0; buffer = c.in_ok-buffer.buffer; ending = endings.Whole })) before (g.S.Shelf.state c.open_read.new.self)) (sym (ap option_copied c.in-Some.is))
-    (refl, refl, ap (λ (r : ReaderState). r.ended) c.new.ensures,
-    (λ content known. HasRead-none _ slot content c.new.ensures
-    (λ gone given. nothing before.capture.given gone (sym (ap (λ (s : SlotState). s.given) c.in-Ok.ensures.opens) ∙ given))
-    (ap (λ (s : SlotState). s.left) c.in-Ok.ensures.opens ∙ known)))
+    subst (λ (n : Option (List ℕ)). StartsOver n (Some (record { reader = c.new.result; taken = 0; buffer = c.in_ok-buffer.buffer; ending = endings.Whole })) before (g.S.Shelf.state c.open_read.new.self)) (sym (ap option_copied c.in-Some.is)) (
+      refl,
+      refl,
+      ap (λ (r : ReaderState). r.ended) c.new.ensures,
+      (λ content known. HasRead-none _ slot content c.new.ensures
+          (λ gone given. nothing before.capture.given gone (sym (ap (λ (s : SlotState). s.given) c.in-Ok.ensures.opens) ∙ given))
+          (ap (λ (s : SlotState). s.left) c.in-Ok.ensures.opens ∙ known)),
+    )

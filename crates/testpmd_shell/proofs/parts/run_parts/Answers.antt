@@ -22,13 +22,13 @@ loop-part-preserved g c =
     let part = c.part-item.result in
     let others = drop (c.loop-part.part-index + 1) program in
     let now : drop c.loop-part.part-index program ≡ part ∷ others =
-        at_drop_more (λ (ps : List Part). ps) program c.loop-part.part-index part c.loop-part-test.true ∙ ap (λ p. p ∷ others) (sym c.part-item.is) in
+    at_drop_more (λ (ps : List Part). ps) program c.loop-part.part-index part c.loop-part-test.true ∙ ap (λ p. p ∷ others) (sym c.part-item.is) in
     record {
       open_feed = c.in_ok-run_part.ensures.open;
       to_go = λ content frames was.
           let go : PartsToGo program (part ∷ others) c.args.feed.now c.loop-part.feed (state c.loop-part.shelf) content frames c.args.adapter.now c.loop-part.adapter =
-              subst (λ ps. PartsToGo program ps c.args.feed.now c.loop-part.feed (state c.loop-part.shelf) content frames c.args.adapter.now c.loop-part.adapter) now
-              (c.loop-part.invariant.to_go content frames was) in
+          subst (λ ps. PartsToGo program ps c.args.feed.now c.loop-part.feed (state c.loop-part.shelf) content frames c.args.adapter.now c.loop-part.adapter) now
+          (c.loop-part.invariant.to_go content frames was) in
           PartsToGo-next program part others c.args.feed.now c.loop-part.feed c.run_part.new.feed (state c.loop-part.shelf) (state c.run_part.new.shelf) content frames
           c.args.adapter.now c.loop-part.adapter c.run_part.new.adapter go c.loop-part.invariant.limits
           (c.in_ok-run_part.ensures.runs content (frames ++ go.more) go.read);

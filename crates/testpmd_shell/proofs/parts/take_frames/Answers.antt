@@ -1,4 +1,4 @@
-use Rattle.std.proofs.Common.{None, Some, Option, sym, subst}
+use Rattle.std.proofs.Common.{Some, Option, sym, subst}
 use Rattle.std.proofs.lemmas.Result.{on_ok_weaker}
 use Rattle.testpmd_shell.specs.declared.feed.Feed.{Feed}
 use Rattle.testpmd_shell.specs.Parts.{WasRead, TakesIn}

@@ -1,4 +1,4 @@
-use Rattle.std.proofs.Common.{◌≡◌, ℕ, [], ◌∷◌, ◌++◌, take, true, false, refl, sym, subst, ◌∙◌, inl, inr, rules, arith}
+use Rattle.std.proofs.Common.{◌≡◌, [], ◌∷◌, ◌++◌, take, false, refl, sym, subst, ◌∙◌, inl, inr, rules, arith}
 use Rattle.io_edges.specs.declared.shelf.Slot.TheVariants.{Capture}
 use Rattle.io_edges.specs.LentLaws.{KeepsSlot-none}
 use Rattle.adapter.specs.Seen.{Grows}
@@ -49,8 +49,8 @@ loop-left-preserved g c =
       goes_on = λ content frames has.
           let go = c.loop-left.invariant.goes_on content frames has in
           let enters = subst (λ bytes. Grows c.loop-left.adapter c.pass.new.adapter
-              (passed_by c.loop-left.adapter.limits c.loop-left.adapter.history (caller_at 9) (parcel_at c.next_frame.new.feed.taken (take c.in-Some.len bytes)) ∷ []))
-              c.deref.ensures.value c.in_ok-pass.ensures.enters in
+          (passed_by c.loop-left.adapter.limits c.loop-left.adapter.history (caller_at 9) (parcel_at c.next_frame.new.feed.taken (take c.in-Some.len bytes)) ∷ []))
+          c.deref.ensures.value c.in_ok-pass.ensures.enters in
           subst (λ left. GoesOn c.args.count left c.args.feed.now c.next_frame.new.feed (g.S.Shelf.state c.next_frame.new.shelf).capture content frames c.args.adapter.now c.pass.new.adapter)
           (sym c.behind_one-left.ensures)
           (GoesOn-next c.args.count c.loop-left.left c.args.feed.now c.loop-left.feed c.next_frame.new.feed

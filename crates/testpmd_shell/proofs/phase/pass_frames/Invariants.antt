@@ -1,8 +1,8 @@
-use Rattle.std.proofs.Common.{◌≡◌, ◌-◌, ℕ, List, true, false}
+use Rattle.std.proofs.Common.{◌≡◌, ◌-◌, ℕ, List, true}
 use Rattle.capture_files.specs.Record.{Frame}
 use Rattle.io_edges.specs.declared.shelf.Slot.TheVariants.{Capture}
 use Rattle.io_edges.specs.Lent.{KeepsSlot}
-use Rattle.testpmd_shell.specs.Feed.{IsReady, HasRead, IsFaultOf}
+use Rattle.testpmd_shell.specs.Feed.{IsReady, HasRead}
 use Rattle.testpmd_shell.specs.Phase.{GoesOn}
 use Rattle.testpmd_shell.proofs.phase.pass_frames.Given as goal
 
