@@ -1,3 +1,4 @@
+pub mod Entries
 pub mod Scanning
 pub mod SoundGrowth
 pub mod StateKept

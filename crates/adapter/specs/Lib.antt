@@ -1,6 +1,7 @@
 pub mod Changes
 pub mod Counted
 pub mod Effect
+pub mod Entries
 pub mod History
 pub mod Kept
 pub mod Reply

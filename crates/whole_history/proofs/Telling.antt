@@ -1,15 +1,15 @@
 -- What calls and frames that come in turn tell of their callers.
-use Rattle.std.proofs.Common.{◌≡◌, ℕ, zero, suc, ◌+◌, ◌<◌, ◌≤◌, Bool, true, false, cond, List, [], ◌∷◌, ◌++◌, length, get_or, refl, sym, ap, ◌∙◌, append-nil, add-zero, subst, eqb, arith}
-use Rattle.std.specs.List.{All, range_with_len}
+use Rattle.std.proofs.Common.{◌≡◌, ℕ, zero, suc, ◌+◌, ◌<◌, ◌≤◌, Bool, true, false, cond, List, [], ◌∷◌, ◌++◌, length, get_or, refl, sym, ap, ◌∙◌, append-nil, add-zero, subst, eqb, arith, None, Some}
+use Rattle.std.specs.List.{All, cons_option, range_with_len}
 use Rattle.std.proofs.lemmas.List.Elements.{All-cons, All-nil}
 use Rattle.std.proofs.lemmas.Bool.Decides.{nat_tests}
 use Rattle.flow_rules.specs.declared.limits.Limits.{Limits}
 use Rattle.capture_files.specs.Record.{Frame}
 use Rattle.adapter.specs.declared.call.Call.{Call}
 use Rattle.adapter.specs.declared.entry.Entry.{Entry}
-use Rattle.adapter.specs.declared.entry.Entry.TheVariants.{Asked, Passed}
 use Rattle.adapter.specs.History.{asked_by, passed_by}
-use Rattle.whole_history.specs.Entries.{calls_by, parcels_of, numbers_by, passers_of}
+use Rattle.adapter.proofs.Entries.{calls_by-append, parcels_of-append, numbers_by-append, passers_of-append}
+use Rattle.adapter.specs.Entries.{calls_by, parcels_of, numbers_by, passers_of}
 use Rattle.whole_history.specs.Reach.{parcel_of, parcels_from}
 use Rattle.whole_history.specs.Whole.{AreAsks}
 use Rattle.whole_history.specs.Serial.{caller_at, asks_of, all_asks_of, passes_of}
@@ -17,32 +17,6 @@ use Rattle.whole_history.specs.Serial.{caller_at, asks_of, all_asks_of, passes_o
 pub AreAsks-asks : (limits : Limits) (who : ℕ) (calls : List Call) (h : List Entry) → AreAsks who calls (asks_of limits who calls h)
 AreAsks-asks limits who [] h = tt
 AreAsks-asks limits who (call ∷ calls) h = (refl, refl, AreAsks-asks limits who calls (h ++ asked_by limits h (caller_at who) call ∷ []))
-
--- ---- what lists of entries tell, one behind the other
-
-cond-append : {X : Type 0} (b : Bool) (x : X) (xs ys zs : List X) → zs ≡ xs ++ ys → cond b (x ∷ zs) zs ≡ cond b (x ∷ xs) xs ++ ys
-cond-append true x xs ys zs e = ap (λ l. x ∷ l) e
-cond-append false x xs ys zs e = e
-
-pub calls_by-append : (who : ℕ) (xs ys : List Entry) → calls_by who (xs ++ ys) ≡ calls_by who xs ++ calls_by who ys
-calls_by-append who [] ys = refl
-calls_by-append who (Asked caller call reply ∷ xs) ys = cond-append (eqb caller.0 who) call (calls_by who xs) (calls_by who ys) (calls_by who (xs ++ ys)) (calls_by-append who xs ys)
-calls_by-append who (Passed caller parcel verdict ∷ xs) ys = calls_by-append who xs ys
-
-pub numbers_by-append : (who : ℕ) (xs ys : List Entry) → numbers_by who (xs ++ ys) ≡ numbers_by who xs ++ numbers_by who ys
-numbers_by-append who [] ys = refl
-numbers_by-append who (Asked caller call reply ∷ xs) ys = numbers_by-append who xs ys
-numbers_by-append who (Passed caller parcel verdict ∷ xs) ys = cond-append (eqb caller.0 who) parcel.number (numbers_by who xs) (numbers_by who ys) (numbers_by who (xs ++ ys)) (numbers_by-append who xs ys)
-
-pub parcels_of-append : (xs ys : List Entry) → parcels_of (xs ++ ys) ≡ parcels_of xs ++ parcels_of ys
-parcels_of-append [] ys = refl
-parcels_of-append (Asked caller call reply ∷ xs) ys = parcels_of-append xs ys
-parcels_of-append (Passed caller parcel verdict ∷ xs) ys = ap (λ l. parcel ∷ l) (parcels_of-append xs ys)
-
-pub passers_of-append : (xs ys : List Entry) → passers_of (xs ++ ys) ≡ passers_of xs ++ passers_of ys
-passers_of-append [] ys = refl
-passers_of-append (Asked caller call reply ∷ xs) ys = passers_of-append xs ys
-passers_of-append (Passed caller parcel verdict ∷ xs) ys = ap (λ l. caller.0 ∷ l) (passers_of-append xs ys)
 
 -- ---- entries of which none is a frame
 
@@ -83,7 +57,7 @@ NoFrame-asked limits who first calls lists h h' =
 
 -- ---- whose calls they are
 
-cond-cons : {X : Type 0} (b : Bool) (x : X) (xs ys : List X) → ys ≡ cond b xs [] → cond b (x ∷ ys) ys ≡ cond b (x ∷ xs) []
+cond-cons : {X : Type 0} (b : Bool) (x : X) (xs ys : List X) → ys ≡ cond b xs [] → cons_option (cond b (Some x) None) ys ≡ cond b (x ∷ xs) []
 cond-cons true x xs ys e = ap (λ l. x ∷ l) e
 cond-cons false x xs ys e = e
 

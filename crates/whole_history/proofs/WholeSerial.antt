@@ -8,14 +8,15 @@ use Rattle.capture_files.specs.Record.{Frame}
 use Rattle.adapter.specs.declared.call.Call.{Call}
 use Rattle.adapter.specs.declared.entry.Entry.{Entry}
 use Rattle.adapter.specs.History.{asked_by}
+use Rattle.adapter.proofs.Entries.{calls_by-append, numbers_by-append, parcels_of-append, passers_of-append}
 use Rattle.flow_grammar.specs.declared.part.Part.{Part}
 use Rattle.flow_grammar.specs.declared.part.Part.TheVariants.{Section, Phase}
 use Rattle.flow_grammar.specs.Calls.{calls_of}
-use Rattle.whole_history.specs.Entries.{calls_by, parcels_of, numbers_by, passers_of}
+use Rattle.adapter.specs.Entries.{calls_by, parcels_of, numbers_by, passers_of}
 use Rattle.whole_history.specs.Reach.{first, taken_by, left_by, parcels_from}
 use Rattle.whole_history.specs.Whole.{IsMiddle, IsPart, IsWhole}
 use Rattle.whole_history.specs.Serial.{caller_at, asks_of, all_asks_of, passes_of, part_of, serial_from, serial}
-use Rattle.whole_history.proofs.Telling.{AreAsks-asks, cond-false, eqb-apart, calls_by-append, numbers_by-append, parcels_of-append, passers_of-append, NoFrame-asked, calls_by-own, calls_by-below, calls_by-list, calls_by-other, calls_by-passes, parcels_of-passes, IsWorker0, All-passers, numbers_by-passes}
+use Rattle.whole_history.proofs.Telling.{AreAsks-asks, cond-false, eqb-apart, NoFrame-asked, calls_by-own, calls_by-below, calls_by-list, calls_by-other, calls_by-passes, parcels_of-passes, IsWorker0, All-passers, numbers_by-passes}
 
 IsStrictlyIncreasing-range : (b : Bool) (a n : ℕ) → IsStrictlyIncreasing (cond b (range_with_len a n) [])
 IsStrictlyIncreasing-range true a n = λ k below.

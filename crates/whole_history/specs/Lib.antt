@@ -1,4 +1,3 @@
-pub mod Entries
 pub mod Reach
 pub mod Whole
 pub mod Serial

@@ -10,7 +10,7 @@ use Rattle.adapter.specs.declared.entry.Entry.TheVariants.{Asked, Passed}
 use Rattle.flow_grammar.specs.declared.part.Part.{Part}
 use Rattle.flow_grammar.specs.declared.part.Part.TheVariants.{Section, Phase}
 use Rattle.flow_grammar.specs.Calls.{calls_of}
-use Rattle.whole_history.specs.Entries.{calls_by, parcels_of, numbers_by, passers_of}
+use Rattle.adapter.specs.Entries.{calls_by, parcels_of, numbers_by, passers_of}
 use Rattle.whole_history.specs.Reach.{taken_by, left_by, parcels_from}
 
 -- the entries are just these calls, asked by that caller in order
