@@ -1,5 +1,5 @@
 -- Endings with one text are one ending.
-use Rattle.std.proofs.Common.{◌≡◌, ℕ, ◌^◌, ◌<◌, List, [], ◌∷◌, ◌++◌, get_or, Some, refl, sym, ap, ◌∙◌, arith, append-nil}
+use Rattle.std.proofs.Common.{◌≡◌, ℕ, ◌^◌, ◌<◌, List, [], ◌∷◌, ◌++◌, get_or, Some, refl, sym, ap, ◌∙◌, arith}
 use Rattle.std.proofs.NetLemmas.Options.{same_parts}
 use Rattle.capture_files.specs.declared.stop.CaptureKind.{CaptureKind}
 use Rattle.capture_files.specs.declared.stop.CaptureKind.TheVariants as kinds

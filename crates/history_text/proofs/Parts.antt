@@ -1,5 +1,5 @@
 -- The parts of a text are told apart: equal texts have equal parts.
-use Rattle.std.proofs.Common.{◌≡◌, ◌≢◌, ℕ, ◌^◌, ◌<◌, ◌≤◌, true, List, [], ◌∷◌, ◌++◌, map, get_or, drop, decimal, refl, sym, ap, ◌∙◌, arith, append_assoc, lit≤}
+use Rattle.std.proofs.Common.{◌≡◌, ◌≢◌, ℕ, ◌^◌, ◌<◌, true, List, [], ◌∷◌, ◌++◌, map, get_or, drop, decimal, refl, sym, ap, ◌∙◌, arith, append_assoc, lit≤}
 use Rattle.std.proofs.lemmas.Fmt.{decimal_is_IsNumeral}
 use Rattle.std.specs.Char.{digit_value}
 use Rattle.std.proofs.NetLemmas.Options.{same_parts}

@@ -1,12 +1,12 @@
 -- A form is read back from the front of a text with its numbers, and a table tells the row of the form.
-use Rattle.std.proofs.Common.{◌≡◌, ◌≢◌, ℕ, ◌^◌, ◌-◌, ◌<◌, ◌≤◌, ◌==◌, nat_lt, nat_le, Bool, true, false, cond, ◌&&◌, List, [], ◌∷◌, ◌++◌, length, get_or, Option, Some, None, option_map, option_and_then, decimal, refl, sym, ap, ◌∙◌, arith, inl, inr, drop_at, append_assoc, le-ltb, ne_eqb, eq-eqb, eqb-true}
+use Rattle.std.proofs.Common.{◌≡◌, ◌≢◌, ℕ, ◌^◌, ◌-◌, ◌<◌, ◌==◌, nat_lt, Bool, true, false, cond, ◌&&◌, List, [], ◌∷◌, ◌++◌, length, get_or, Some, None, option_map, option_and_then, decimal, refl, ap, ◌∙◌, arith, inl, inr, drop_at, append_assoc, le-ltb, ne_eqb, eq-eqb, eqb-true}
 use Rattle.std.proofs.lemmas.Bool.{and_left, and_right, and_parts, both_ways, cases_lt, leb-true}
 use Rattle.std.proofs.lemmas.List.{get_or_append_left}
 use Rattle.std.proofs.lemmas.Option.{none-some}
 use Rattle.std.proofs.lemmas.Fmt.{decimal_is_IsNumeral, decimal_digit, first_decimal}
 use Rattle.std.specs.Char.{digit_value}
 use Rattle.std.specs.Str.Parse.{IsNumeral}
-use Rattle.std.specs.Net.Reader.{read_byte, read_number}
+use Rattle.std.specs.Net.Reader.{read_byte}
 use Rattle.std.proofs.NetLemmas.Numbers.{NoDigit, read_number_some, read_number_empty}
 use Rattle.std.proofs.NetLemmas.Ipv4.{read_byte_other}
 use Rattle.history_text.specs.Forms.{Piece, Hole, Byte, form, weave}

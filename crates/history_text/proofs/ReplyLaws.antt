@@ -1,5 +1,5 @@
 -- Replies with one text are one reply.
-use Rattle.std.proofs.Common.{◌≡◌, ◌≢◌, ℕ, ◌^◌, ◌<◌, true, false, List, [], ◌∷◌, ◌++◌, take, drop, map, get_or, codes, decimal, Option, Some, None, refl, sym, ap, ◌∙◌, subst, arith, rules, append_assoc, take-append-drop, lit≤, lit<}
+use Rattle.std.proofs.Common.{◌≡◌, ◌≢◌, ℕ, ◌^◌, ◌<◌, true, false, List, [], ◌∷◌, ◌++◌, take, drop, get_or, codes, Option, Some, None, refl, sym, ap, ◌∙◌, subst, arith, rules, append_assoc, take-append-drop, lit≤, lit<}
 use Rattle.std.proofs.lemmas.Option.{same_Some}
 use Rattle.std.proofs.NetLemmas.Options.{same_parts}
 use Rattle.std.proofs.NetLemmas.Numbers.{NoDigit}

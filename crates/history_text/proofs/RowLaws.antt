@@ -1,5 +1,5 @@
 -- Lists of rules with one text are one list.
-use Rattle.std.proofs.Common.{◌≡◌, ◌≢◌, ℕ, ◌^◌, ◌<◌, List, [], ◌∷◌, ◌++◌, drop, codes, decimal, Some, refl, sym, ap, ◌∙◌, append_assoc, lit≤}
+use Rattle.std.proofs.Common.{◌≡◌, ◌≢◌, ℕ, List, [], ◌∷◌, ◌++◌, drop, codes, decimal, Some, refl, sym, ap, ◌∙◌, append_assoc}
 use Rattle.std.specs.List.{flat_map}
 use Rattle.std.proofs.NetLemmas.Numbers.{NoDigit}
 use Rattle.packet_headers.specs.declared.items.ItemKind.{ItemKind}

@@ -1,5 +1,5 @@
 -- Verdicts with one text are one verdict.
-use Rattle.std.proofs.Common.{◌≡◌, ◌≢◌, ℕ, ◌+◌, ◌*◌, ◌/◌, ◌%◌, ◌^◌, ◌<◌, ◌≤◌, List, [], ◌∷◌, ◌++◌, take, drop, fold, get_or, codes, decimal, Option, Some, None, refl, sym, ap, ◌∙◌, arith, append_assoc, lit≤}
+use Rattle.std.proofs.Common.{◌≡◌, ◌≢◌, ℕ, ◌+◌, ◌*◌, ◌/◌, ◌%◌, ◌^◌, ◌<◌, List, [], ◌∷◌, ◌++◌, take, drop, fold, get_or, codes, Option, Some, None, refl, sym, ap, ◌∙◌, arith, append_assoc, lit≤}
 use Rattle.std.proofs.Math.Nat.{div-div-eq-div-mul, div-add-mod}
 use Rattle.std.proofs.lemmas.Str.{digit_value-digit_char}
 use Rattle.std.specs.Char.{digit_value}

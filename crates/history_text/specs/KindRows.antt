@@ -1,5 +1,5 @@
 -- The table of the texts of replies as a list of rows, by which a text is read.
-use Rattle.std.specs.Prelude.{ℕ, true, false, List, [], ◌∷◌, ◌++◌, map, Some}
+use Rattle.std.specs.Prelude.{ℕ, true, false, List, [], ◌∷◌, map, Some}
 use Rattle.flow_rules.specs.declared.fault.Cause.{Cause}
 use Rattle.flow_rules.specs.declared.fault.Cause.TheVariants as causes
 use Rattle.adapter.specs.declared.call.BadKind.TheVariants as bads

@@ -28,6 +28,10 @@
 //! - `ending`: the line of a capture that stopped early (`specs/Endings.antt`),
 //! - `transcript`: an entry's line, and the whole (`specs/Text.antt`).
 //!
+//! What is told by two equal texts is the same: of each entry its caller, its place or number, and its reply or verdict; and
+//! how the capture ended (`read_back`, with what a text can tell in `specs/Told.antt`). A reply's text is told from the others
+//! by the table itself, read as rows (`specs/Reading.antt`, `specs/KindRows.antt`), so that a new line asks for no new proof.
+//!
 //! Not done here: reading a transcript back.
 #![tactic(auto)]
 
