@@ -60,9 +60,8 @@ impl Draft {
     {
         match said {
             Line::Calls(ops) => {
-                let ops = ops.as_slice();
-                add_ops(&mut self.calls, number, ops)?;
                 self.count += ops.len();
+                add_ops(&mut self.calls, number, ops.into_ops())?;
                 Ok(false)
             }
             Line::Start(count) => self.start(alloc, number, count),
@@ -217,13 +216,12 @@ fn call_at(line: u32, part: u16, op: Op) -> Call
 }
 
 /// Puts the calls of a line behind the others.
-fn add_ops(calls: &mut CallList, line: u32, ops: &[Op]) -> Result<(), AllocError>
-    requires { length ops.now ≤ 64 }
-    ensures { OnOk result (calls.new ≡ calls.old ++ calls_at line 1 ops.now) }
+fn add_ops(calls: &mut CallList, line: u32, ops: Vec<Op>) -> Result<(), AllocError>
+    requires { length ops.items ≤ 64 }
+    ensures { OnOk result (calls.new ≡ calls.old ++ calls_at line 1 ops.items) }
 {
     let mut part: u16 = 1;
     for op in ops {
-        let op = op.clone()?;
         calls.push(call_at(line, part, op))?;
         part += 1;
     }

@@ -66,6 +66,15 @@ impl OpList {
         &self.ops[i]
     }
 
+    /// The ops themselves.
+    pub(crate) fn into_ops(self) -> Vec<Op>
+        ensures value { result.items ≡ self }
+        ensures few { length result.items ≤ 64 }
+    {
+        let OpList { ops } = self;
+        ops
+    }
+
     /// All ops.
     pub fn as_slice(&self) -> &[Op]
         ensures value { result.now ≡ self.now }
