@@ -30,7 +30,8 @@
 //!
 //! What is told by two equal texts is the same: of each entry its caller, its place or number, and its reply or verdict; and
 //! how the capture ended (`read_back`, with what a text can tell in `specs/Told.antt`). A reply's text is told from the others
-//! by the table itself, read as rows (`specs/Reading.antt`, `specs/KindRows.antt`), so that a new line asks for no new proof.
+//! by the table itself, read as rows (`specs/Reading.antt`, `specs/KindRows.antt`): a new reply is a row more there, and a
+//! case more of what it is made of (`proofs/ReplyLaws.antt`, `unspelled`).
 //!
 //! Not done here: reading a transcript back.
 #![tactic(auto)]
