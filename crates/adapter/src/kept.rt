@@ -18,7 +18,7 @@ use crate::caller::Caller;
 use crate::parcel::Parcel;
 use crate::reply::Reply;
 use arrayvec::ArrayVec;
-use flow_actions::{Fate, Verdict};
+use flow_actions::{Fate, MAX_PATH, Verdict};
 use packet_headers::{Ipv4, Key, Network, Stack, Tags, Transport};
 pub(crate) use shown::show;
 use std::alloc::{AllocError, Global};
@@ -167,7 +167,7 @@ fn keep_long(
 }
 
 /// A short way.
-fn steps_of(path: &ArrayVec<u32, 16>) -> Option<Steps>
+fn steps_of(path: &ArrayVec<u32, MAX_PATH>) -> Option<Steps>
     ensures { IfSome result (λ steps. ids_of steps ≡ path.now.items) }
 {
     let ids = path.as_slice();

@@ -25,4 +25,4 @@ mod action;
 mod verdict;
 
 pub use action::{Action, ActionKind, Actions, MAX_ACTIONS};
-pub use verdict::{Fate, Verdict};
+pub use verdict::{Fate, MAX_PATH, Verdict};

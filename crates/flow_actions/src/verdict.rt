@@ -14,13 +14,16 @@ pub enum Fate {
     Drop,
 }
 
+/// The most rules on a frame's way: one of each of the 16 groups.
+pub const MAX_PATH: usize = 16;
+
 /// The verdict on a frame: its fate, the mark and the RSS hash where it has them, and the ids of the rules on its way.
 #[derive(Default, Drop)]
 pub struct Verdict {
     pub fate: Fate,
     pub mark: Option<u32>,
     pub hash: Option<u32>,
-    pub path: ArrayVec<u32, 16>,
+    pub path: ArrayVec<u32, MAX_PATH>,
 }
 
 impl Clone for Verdict {

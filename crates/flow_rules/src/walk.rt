@@ -8,11 +8,11 @@ ghost use Rattle.flow_rules.specs.Way.{walked_on};
 
 use crate::rule::Rule;
 use arrayvec::ArrayVec;
-use flow_actions::{Action, Fate, Verdict};
+use flow_actions::{Action, Fate, MAX_PATH, Verdict};
 use packet_headers::Key;
 
 /// The number of groups, so the most rules on a frame's path.
-const MAX_VISITS: u32 = 16;
+const MAX_VISITS: u32 = MAX_PATH as u32;
 
 /// What packets see: the rules in effect, kept so that the best of a group is found, and what becomes of a frame that
 /// none takes.
@@ -45,7 +45,7 @@ pub(crate) enum Course {
 pub(crate) struct Way {
     mark: Option<u32>,
     hash: Option<u32>,
-    path: ArrayVec<u32, 16>,
+    path: ArrayVec<u32, MAX_PATH>,
     next: Course,
 }
 

@@ -7,7 +7,7 @@ use super::{Head, Kept, Long, Plain, Steps};
 use crate::entry::EntryView;
 use crate::parcel::Parcel;
 use arrayvec::ArrayVec;
-use flow_actions::Verdict;
+use flow_actions::{MAX_PATH, Verdict};
 use packet_headers::{Eth, Key, Network, Stack, Tags};
 
 /// The entry, from what is kept of it.
@@ -53,7 +53,7 @@ fn key_with(stack: &Stack) -> Key
 }
 
 /// The ids of a short way as a list.
-fn path_of(steps: Steps) -> ArrayVec<u32, 16>
+fn path_of(steps: Steps) -> ArrayVec<u32, MAX_PATH>
     ensures { result.items ≡ ids_of steps }
 {
     let mut path = ArrayVec::new();
@@ -69,7 +69,7 @@ fn path_of(steps: Steps) -> ArrayVec<u32, 16>
 }
 
 /// The same ids.
-fn copy_of(path: &ArrayVec<u32, 16>) -> ArrayVec<u32, 16>
+fn copy_of(path: &ArrayVec<u32, MAX_PATH>) -> ArrayVec<u32, MAX_PATH>
     ensures { result.items ≡ path.now.items }
 {
     let mut copy = ArrayVec::new();

@@ -5,7 +5,7 @@ use crate::caller::Caller;
 use crate::entry::EntryView;
 use crate::parcel::Parcel;
 use arrayvec::ArrayVec;
-use flow_actions::{Fate, Verdict};
+use flow_actions::{Fate, MAX_PATH, Verdict};
 use packet_headers::{
     Eth, Ipv4, Ipv6, Ipv6Address, Key, Network, Stack, Tag, Tags, Tcp, Transport, Tunnel, Udp,
     Vxlan,
@@ -168,7 +168,7 @@ fn fate(seed: u32) -> Fate {
 }
 
 /// The ids of as many rules.
-fn path(seed: u32, len: u32) -> ArrayVec<u32, 16> {
+fn path(seed: u32, len: u32) -> ArrayVec<u32, MAX_PATH> {
     let mut path = ArrayVec::new();
     for place in 0..len {
         let _full = path.try_push(word(seed, place));
