@@ -1,3 +1,4 @@
+//! Rules as asked for, and their first faults.
 use super::*;
 use arrayvec::ArrayVec;
 use flow_actions::{Action, ActionKind, Actions};

@@ -1,4 +1,4 @@
-// One frame's memory.
+//! One frame's memory.
 ghost use Rattle.std.specs.Prelude.{◌≡◌, length, IfOk};
 ghost use Rattle.std.specs.Borrow.{Lends, Array, u8, sem};
 

@@ -1,4 +1,4 @@
-// One caller's right to use a ring, and the list in which passes are handed out.
+//! One caller's right to use a ring, and the list in which passes are handed out.
 ghost use Rattle.std.specs.Prelude.{◌≡◌, ◌++◌, ◌↔◌, [], ◌∷◌, length, IsNone, IsErr, OnOk, IfErr, option_to_list};
 ghost use Rattle.frame_ring.specs.Passes.{passes_in, limit_of, gathered};
 

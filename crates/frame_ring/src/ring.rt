@@ -1,4 +1,4 @@
-// The ring: two bounded queues under their rules.
+//! The ring: two bounded queues under their rules.
 mod calls;
 mod draining;
 mod making;

@@ -1,4 +1,4 @@
-// The rules of the two queues, and what each step on them tells.
+//! The rules of the two queues, and what each step on them tells.
 use crate::buffer::Buffer;
 use crate::view::{FreeView, RingView};
 use crossbeam_queue::protocol::{Join, Lesson, Outcome, Protocol, Split};

@@ -1,3 +1,4 @@
+//! Rings of one pass and of several.
 ghost use Rattle.std.specs.Prelude.{◌≡◌, ◌+◌, ◌<◌, ◌≤◌, [], length, map, All, IfErr};
 ghost use Rattle.frame_ring.specs.Passes.{number_of, offered, passes_in, limit_of, gathered, frames_of, frames_in};
 ghost use Rattle.frame_ring.specs.Rings.{floor_of, passes_of, IsPassOf, IsFresh, AreAllOf, WasDrained, IsSettled};

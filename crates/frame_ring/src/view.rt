@@ -1,4 +1,4 @@
-// What a pass knows of the two queues. No value of these types is ever made.
+//! What a pass knows of the two queues. No value of these types is ever made.
 use crate::buffer::Buffer;
 use std::collections::LinkedList;
 

@@ -1,3 +1,4 @@
+//! Bytes and 16-bit words at places of a frame.
 ghost use Rattle.std.specs.Prelude.{◌≡◌, ◌+◌, ◌≤◌, ◌%◌, length};
 ghost use Rattle.byteorder.specs.Endian.{big_bytes};
 ghost use Rattle.packet_headers.specs.Fields.{number_at};

@@ -1,3 +1,4 @@
+//! Edits of a frame's bytes, with their checksums.
 ghost use Rattle.std.specs.Prelude.{◌≡◌, ◌+◌, ◌≤◌, ◌%◌, ◌⊎◌, ◌<◌, length, [], ◌∷◌, Some, None};
 ghost use Rattle.packet_headers.specs.Headers.{eth_layer, tag_layer, ipv4_layer, ipv6_layer};
 ghost use Rattle.packet_headers.specs.Stack.{stack_layers, tag_layers, transport_layers};

@@ -1,3 +1,4 @@
+//! Edits of a key's layers.
 ghost use Rattle.std.specs.Prelude.{◌≡◌, ℕ, ◌<◌, List, ◌++◌, map};
 ghost use Rattle.packet_headers.specs.declared.items.LayerAt.{LayerAt};
 ghost use Rattle.packet_headers.specs.Headers.{eth_layer, tag_layer, ipv4_layer, ipv6_layer, tcp_layer, udp_layer};

@@ -1,3 +1,4 @@
+//! One's complement sums, and a checksum behind a changed word (RFC 1624).
 ghost use Rattle.std.specs.Prelude.{◌≡◌, ◌%◌, length};
 ghost use Rattle.header_edit.specs.Checksum.{ones_add, words_of, ones_sum, mended_word, mended, mended_udp};
 

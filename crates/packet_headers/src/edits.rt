@@ -1,3 +1,5 @@
+//! Edits of one field.
+
 /// A change of one field of a header.
 #[derive(Clone, Copy, PartialEq, Eq, Debug)]
 pub enum Edit {

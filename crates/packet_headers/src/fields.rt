@@ -1,3 +1,4 @@
+//! The fields of each kind of header.
 ghost use Rattle.std.specs.Prelude.{◌≡◌, map};
 ghost use Rattle.packet_headers.specs.Fields.{fields_of, told};
 

@@ -1,3 +1,4 @@
+//! The headers of a frame, each with its fields.
 ghost use Rattle.std.specs.Prelude.{◌≡◌};
 ghost use Rattle.packet_headers.specs.Headers.{eth_layer, tag_layer, ipv4_layer, ipv6_layer, tcp_layer, udp_layer, vxlan_layer};
 

@@ -1,3 +1,5 @@
+//! Kinds of header, and layers.
+
 /// The kinds of pattern item. All but `Void` are also kinds of header.
 #[derive(Clone, Copy, PartialEq, Eq, Debug, Default)]
 pub enum ItemKind {

@@ -1,3 +1,4 @@
+//! The key of a frame: its headers, and their layers.
 ghost use Rattle.std.specs.Prelude.{◌≡◌, ◌+◌, ◌≤◌, ◌<◌, ◌++◌, length, map, slice_get};
 ghost use Rattle.arrayvec.specs.ArrayVec.{array_vec_len};
 ghost use Rattle.packet_headers.specs.Stack.{outer_layers, tag_layers, network_layers, transport_layers};

@@ -1,3 +1,4 @@
+//! Numbers in network order, at places of a frame.
 ghost use Rattle.std.specs.Prelude.{◌≡◌, ◌+◌, ◌≤◌, length, drop};
 ghost use Rattle.packet_headers.specs.Fields.{number_at};
 

@@ -1,3 +1,4 @@
+//! The headers of one stack, and those of a tunnel.
 use crate::headers::{Eth, Ipv4, Ipv6, Tag, Tcp, Udp, Vxlan};
 
 /// The VLAN tags of a stack, in order.

@@ -1,3 +1,5 @@
+//! Faults of a pattern.
+
 /// Why a pattern is refused. A place counts the pattern's items from 0, `Void` included.
 #[derive(Clone, Copy, PartialEq, Eq, Debug)]
 pub enum ItemFault {

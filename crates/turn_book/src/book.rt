@@ -1,4 +1,4 @@
-// The book: a value under a ticket lock.
+//! The book: a value under a ticket lock.
 mod ends;
 
 use crate::entries::Entries;

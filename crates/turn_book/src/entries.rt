@@ -1,4 +1,4 @@
-// What contracts see of a book's value.
+//! What contracts see of a book's value.
 ghost use Rattle.std.specs.Prelude.{ℕ, List};
 
 /// A value that carries its own history. Contracts see the list of its entries, and beside it a

@@ -1,5 +1,5 @@
-// The rule of the table, and what each step on it tells.
-// Word 0 is the next ticket, word 1 the ticket that is served, and the one slot holds the value.
+//! The rule of the table, and what each step on it tells.
+//! Word 0 is the next ticket, word 1 the ticket that is served, and the one slot holds the value.
 use crate::entries::Entries;
 use crate::view::Knows;
 use atomic_table::{Join, Play, Split, TableRule};

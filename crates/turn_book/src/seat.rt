@@ -1,4 +1,4 @@
-// One caller's right to turns at a book, and the list in which seats are handed out.
+//! One caller's right to turns at a book, and the list in which seats are handed out.
 ghost use Rattle.std.specs.Prelude.{◌≡◌, ◌<◌, ◌++◌, ◌↔◌, [], ◌∷◌, length, IsNone, IsErr, OnOk, IfErr, option_to_list};
 ghost use Rattle.turn_book.specs.Seats.{seats_in, limit_of};
 

@@ -1,4 +1,4 @@
-// One seat's turn.
+//! One seat's turn.
 mod steps;
 
 use crate::book::Book;

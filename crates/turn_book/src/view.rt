@@ -1,4 +1,4 @@
-// What a seat at the table knows. No value of these types is ever made.
+//! What a seat at the table knows. No value of these types is ever made.
 use std::collections::LinkedList;
 
 /// A seat's number, the turns that it has left, and the history that it has seen.

@@ -1,4 +1,4 @@
-// A log of values, each with the number of the seat that noted it.
+//! A log of values, each with the number of the seat that noted it.
 use turn_book::Entries;
 
 #[derive(Clone, Copy, Debug, PartialEq, Eq)]

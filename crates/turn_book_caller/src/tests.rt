@@ -1,3 +1,4 @@
+//! Two threads on one log.
 use crate::{Entry, Log, log_of_two};
 use std::test::Fail;
 use turn_book::{Book, Seat, SeatList};

@@ -1,4 +1,4 @@
-// A turn that notes one value.
+//! A turn that notes one value.
 ghost use Rattle.std.specs.Prelude.{◌≡◌, ◌+◌, ◌^◌, ◌<◌, ◌≤◌, ◌++◌, [], ◌∷◌, OnOk, OnErr};
 ghost use Rattle.turn_book.specs.Seats.{seats_in, limit_of};
 ghost use denote.Param.Send.{IsSync};

@@ -1,3 +1,4 @@
+//! Forms of lines, and what each asks for.
 use crate::shown::{each_says, shown};
 use std::test::Fail;
 

@@ -1,3 +1,4 @@
+//! Lines, and what each says.
 mod items;
 mod relations;
 

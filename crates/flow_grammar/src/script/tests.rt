@@ -1,3 +1,4 @@
+//! Scripts, and the programs that they make.
 use super::*;
 use crate::part::Part;
 use crate::shown::show_op;

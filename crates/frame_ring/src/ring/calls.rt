@@ -1,4 +1,4 @@
-// What callers do with a ring while others use it too.
+//! What callers do with a ring while others use it too.
 ghost use Rattle.std.specs.Prelude.{◌≡◌, ◌+◌, ◌<◌, ◌≤◌, ◌↔◌, [], ◌∷◌, length, All, IsNone, IsErr, IfSome, MatchOption, MatchResult};
 ghost use Rattle.frame_ring.specs.Passes.{number_of, offered, grabbed, taken, given, left_by};
 ghost use Rattle.frame_ring.specs.Rings.{floor_of, passes_of, capacity_of, buffers_of, IsPassOf, RingHeld, FreeHeld};

@@ -1,4 +1,4 @@
-// What is left in the ring, for who holds all its passes.
+//! What is left in the ring, for who holds all its passes.
 ghost use Rattle.std.specs.Prelude.{◌≡◌, ◌⊎◌, ◌<◌, ◌≤◌, ◌++◌, ◌↔◌, [], map, length, All, IsNone, IfSome, vec_capacity, option_to_list};
 ghost use Rattle.crossbeam_queue.specs.Passes.{view};
 ghost use Rattle.crossbeam_queue.specs.Passes as queue;

@@ -1,4 +1,4 @@
-// How a ring is made with its buffers and its passes.
+//! How a ring is made with its buffers and its passes.
 ghost use Rattle.std.specs.Prelude.{◌≡◌, ◌<◌, ◌≤◌, [], ◌∷◌, map, All, IfOk, OnOk, vec_capacity};
 ghost use Rattle.std.specs.List.{range_with_len};
 ghost use Rattle.crossbeam_queue.specs.Passes.{view, ruled_capacity};

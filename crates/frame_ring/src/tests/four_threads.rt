@@ -1,4 +1,4 @@
-// Four threads offer and grab, over a ring with few buffers.
+//! Four threads offer and grab, over a ring with few buffers.
 ghost use Rattle.std.specs.Prelude.{◌≡◌, ◌+◌, ◌<◌, [], length, All};
 ghost use Rattle.frame_ring.specs.Passes.{number_of, offered, passes_in, limit_of, gathered};
 ghost use Rattle.frame_ring.specs.Rings.{floor_of, IsPassOf, IsFresh};

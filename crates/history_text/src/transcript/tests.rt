@@ -1,3 +1,4 @@
+//! Transcripts of small histories.
 mod endings;
 mod replies;
 

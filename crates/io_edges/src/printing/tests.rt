@@ -1,3 +1,4 @@
+//! Pieces printed through a page.
 ghost use Rattle.std.specs.Prelude.{◌<◌};
 
 use super::*;

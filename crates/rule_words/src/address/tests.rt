@@ -1,3 +1,4 @@
+//! Texts of addresses, and their numbers.
 use super::*;
 use std::process::Abort;
 use std::test::Fail;

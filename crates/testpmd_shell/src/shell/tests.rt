@@ -1,3 +1,4 @@
+//! Sessions over files in memory.
 mod patterns;
 mod phases;
 mod rules;

@@ -1,4 +1,4 @@
-// How a book is made with its seats, and how it is closed.
+//! How a book is made with its seats, and how it is closed.
 ghost use Rattle.std.specs.Prelude.{◌≡◌, ℕ, ◌+◌, ◌<◌, ◌≤◌, [], ◌∷◌, false, None, Some, map, length, All, Contains, IfOk, IfErr, vec_capacity};
 ghost use Rattle.std.specs.List.{range_with_len};
 ghost use Rattle.turn_book.specs.Views.{BeginsWith, knows};

@@ -1,4 +1,4 @@
-// How a turn begins, lends the value, and ends.
+//! How a turn begins, lends the value, and ends.
 ghost use Rattle.std.specs.Prelude.{◌≡◌, ◌≢◌, ◌+◌, ◌<◌, ◌++◌, List, []};
 ghost use Rattle.std.specs.Borrow.{Lends, sem};
 ghost use mir.Syntax.{named};

@@ -1,3 +1,4 @@
+//! Lists of items in lines, and the patterns that they make.
 use crate::shown::{each_item_list_says, shown_items};
 use std::test::Fail;
 

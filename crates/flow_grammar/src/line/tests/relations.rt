@@ -1,3 +1,4 @@
+//! Relations of fields in lines, and the specs, lasts and masks that they make.
 use crate::shown::each_item_list_says;
 use std::test::Fail;
 
