@@ -1,5 +1,5 @@
 -- A form is woven part by part.
-use Rattle.std.proofs.Common.{◌≡◌, ◌≢◌, ℕ, zero, suc, ◌<◌, ◌+◌, ◌-◌, ◌==◌, true, false, cond, List, [], ◌∷◌, ◌++◌, map, length, get_or, take, drop, decimal, refl, sym, ap, ◌∙◌, arith, append_assoc, ne_eqb, add-one}
+use Rattle.std.proofs.Common.{◌≡◌, ◌≢◌, ℕ, zero, suc, ◌<◌, ◌+◌, ◌-◌, ◌==◌, true, false, cond, List, [], ◌∷◌, ◌++◌, map, length, get_or, take, drop, decimal, refl, sym, ap, ◌∙◌, arith, append_assoc, ne_eqb, eqb-true, add-one}
 use Rattle.std.specs.List.{concat}
 use Rattle.std.proofs.Math.Seq.{drop-nil}
 use Rattle.std.proofs.lemmas.List.{take_rest}
@@ -13,7 +13,7 @@ form-append (c ∷ a) b = ap (λ ps. piece_of c ∷ ps) (form-append a b)
 pub weave-append : (ps qs : List Piece) (ns : List ℕ) → weave (ps ++ qs) ns ≡ weave ps ns ++ weave qs (drop (holes ps) ns)
 weave-append [] qs ns = refl
 weave-append (Byte b ∷ ps) qs ns = ap (λ t. b ∷ t) (weave-append ps qs ns)
-weave-append (Hole ∷ ps) qs [] = weave-append ps qs [] ∙ ap (λ ms. weave ps [] ++ weave qs ms) (drop-nil (holes ps))
+weave-append (Hole ∷ ps) qs [] = ap (λ t. 48 ∷ t) (weave-append ps qs [] ∙ ap (λ ms. weave ps [] ++ weave qs ms) (drop-nil (holes ps)))
 weave-append (Hole ∷ ps) qs (n ∷ ns) =
     ap (λ t. decimal n ++ t) (weave-append ps qs ns) ∙ sym (append_assoc (decimal n) (weave ps ns) (weave qs (drop (holes ps) ns)))
 
@@ -72,12 +72,23 @@ no_number (n ∷ ns) e = absurd (omega (arith, e))
 rest_is : (a : List ℕ) (i : ℕ) → take (length a - (i + 1)) (drop (i + 1) a) ≡ drop (suc i) a
 rest_is a i = take_rest a (i + 1) ∙ ap (λ k. drop k a) (add-one i)
 
--- no number is left for the first hole
-pub filled-none : (a ns : List ℕ) (i : ℕ) → i < length a → get_or a i 0 ≡ 48 → holes (form (take i a)) ≡ 0 → length ns ≡ 0
-    → take i a ++ filled (take (length a - (i + 1)) (drop (i + 1) a)) ns ≡ filled a ns
-filled-none a ns i within is none empty =
-    ap (λ b. take i a ++ filled b ns) (rest_is a i) ∙ ap (λ ms. take i a ++ filled (drop (suc i) a) ms) (no_number ns empty)
-    ∙ filled-front a [] i within is none ∙ ap (filled a) (sym (no_number ns empty))
+filled-nil : (a : List ℕ) → a ≡ filled a []
+filled-nil [] = refl
+filled-nil (b ∷ a) =
+    elim (b == 48) as (λ t. (b == 48) ≡ t → b ∷ a ≡ weave (cond t Hole (Byte b) ∷ form a) []) [
+      | true ↦ λ e. ap (λ x. x ∷ a) (eqb-true b 48 e) ∙ ap (λ t. 48 ∷ t) (filled-nil a)
+      | false ↦ λ e. ap (λ t. b ∷ t) (filled-nil a)
+    ] refl
+
+-- where no number is left a text stands as it is
+pub filled-none : (a ns : List ℕ) → length ns ≡ 0 → a ≡ filled a ns
+filled-none a ns empty = filled-nil a ∙ ap (filled a) (sym (no_number ns empty))
+
+pub left-none : (a ns : List ℕ) → length ns ≡ 0 → ns ≡ drop (holes (form a)) ns
+left-none a ns empty = let none = no_number ns empty in none ∙ sym (drop-nil (holes (form a))) ∙ ap (drop (holes (form a))) (sym none)
+
+pub left-plain : (a ns : List ℕ) → holes (form a) ≡ 0 → ns ≡ drop (holes (form a)) ns
+left-plain a ns none = ap (λ k. drop k ns) (sym none)
 
 -- the first hole takes the first number
 pub filled-some : (a ns ms : List ℕ) (i n : ℕ) → i < length a → get_or a i 0 ≡ 48 → holes (form (take i a)) ≡ 0 → ns ≡ n ∷ ms

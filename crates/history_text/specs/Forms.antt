@@ -13,11 +13,11 @@ piece_of b = if b == 48 then Hole else Byte b
 abbrev pub form : List ℕ → List Piece
 form text = map piece_of text
 
--- a number in each hole, in decimal, as long as there are numbers
+-- a number in each hole, in decimal; where no number is left a hole stays `0`
 abbrev pub weave : List Piece → List ℕ → List ℕ
 weave [] ns = []
 weave (Byte b ∷ ps) ns = b ∷ weave ps ns
-weave (Hole ∷ ps) [] = weave ps []
+weave (Hole ∷ ps) [] = 48 ∷ weave ps []
 weave (Hole ∷ ps) (n ∷ ns) = decimal n ++ weave ps ns
 
 -- the text of a form with these numbers

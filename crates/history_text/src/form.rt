@@ -32,14 +32,15 @@ fn print_part<'n, K: Sink>(
         (gather_of K.taken K.faults sink.new page.new) (filled part.now numbers.entry.now) }
     ensures left { result.now ≡ drop (holes (form part.now)) numbers.entry.now }
 {
+    let Some((number, others)) = numbers.split_first() else {
+        print(sink, page, part);
+        return numbers;
+    };
     let Some(place) = first_hole(part) else {
         print(sink, page, part);
         return numbers;
     };
     print(sink, page, &part[..place]);
-    let Some((number, others)) = numbers.split_first() else {
-        return print_part(sink, page, &part[place + 1..], numbers);
-    };
     print_number(sink, page, *number);
     print_part(sink, page, &part[place + 1..], others)
 }

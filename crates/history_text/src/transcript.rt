@@ -11,7 +11,6 @@ ghost use Rattle.history_text.specs.Text.{entry_text, end_text, text_of};
 
 use crate::caller::print_caller;
 use crate::ending::{Ending, print_ending};
-use crate::form::print_form;
 use crate::reply::print_reply;
 use crate::totals::print_totals;
 use crate::verdict::print_verdict;
@@ -63,8 +62,11 @@ fn print_entry<K: Sink>(sink: &mut K, page: &mut Page, limits: Limits, entry: En
             reply,
         } => {
             print_caller(sink, page, caller);
-            let at = [call.at.line as u64, call.at.part as u64];
-            print_form(sink, page, &[b" 0.0: "], &at);
+            print(sink, page, b" ");
+            print_number(sink, page, call.at.line);
+            print(sink, page, b".");
+            print_number(sink, page, call.at.part);
+            print(sink, page, b": ");
             print_reply(sink, page, limits, reply);
             print(sink, page, b"\n");
         }
