@@ -3,17 +3,13 @@ use super::*;
 use capture_files::CaptureKind;
 use std::process::Abort;
 
-/// What stands behind the line of totals.
-fn expect_end(rt: &(impl Abort + AllocGlobal), ending: Ending, line: &[u8]) -> Result<(), Fail> {
-    let limits = Limits {
-        rxq: 1,
-        flow_max: 4096,
-    };
-    let adapter = Adapter::new(rt.alloc(), limits)?;
+/// The line of an ending.
+fn expect_line(rt: &(impl Abort + AllocGlobal), ending: Ending, line: &[u8]) -> Result<(), Fail> {
     let mut sink = MemSink::new(rt.alloc(), 1000, None)?;
-    assert_eq!(rt; print_history(&adapter, ending, &mut sink), Ok(()));
-    let totals = b"total received 0 dropped 0 queues 0\n";
-    assert_eq!(rt; &sink.taken()[totals.len()..], line);
+    let mut page = Page::new();
+    print_ending(&mut sink, &mut page, ending);
+    assert_eq!(rt; finish(&mut sink, page), Ok(()));
+    assert_eq!(rt; sink.taken(), line);
     Ok(())
 }
 
@@ -56,7 +52,7 @@ fn each_ending_has_its_line(rt: HostRuntime) -> Result<(), Fail> {
         (Ending::ReadFault, b"capture: read fault\n"),
     ];
     for (ending, line) in &rows {
-        expect_end(&rt, *ending, line)?;
+        expect_line(&rt, *ending, line)?;
     }
     Ok(())
 }
