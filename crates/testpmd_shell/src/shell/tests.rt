@@ -406,7 +406,7 @@ fn openings_fail_in_turn(rt: HostRuntime) -> Result<(), AllocError> {
 }
 
 #[test]
-fn limits_and_words(rt: HostRuntime) -> Result<(), AllocError> {
+fn a_comment_of_a_byte_too_many(rt: HostRuntime) -> Result<(), AllocError> {
     let comment = vec![in rt.alloc(); b'#'; 1_048_577]?;
     Case::of(&["--cmdline-file=script"], &comment, b"").expect(
         &rt,
@@ -415,13 +415,24 @@ fn limits_and_words(rt: HostRuntime) -> Result<(), AllocError> {
         b"",
         "a comment of a byte too many",
     );
-    Case::of(&["--cmdline-file=script"], &comment[..1_048_576], b"").expect(
+    Ok(())
+}
+
+#[test]
+fn the_longest_comment(rt: HostRuntime) -> Result<(), AllocError> {
+    let comment = vec![in rt.alloc(); b'#'; 1_048_576]?;
+    Case::of(&["--cmdline-file=script"], &comment, b"").expect(
         &rt,
         rt.alloc(),
         Status::Done,
         b"total received 0 dropped 0 queues 0\n",
         "the longest comment",
     );
+    Ok(())
+}
+
+#[test]
+fn words_that_give_no_options(rt: HostRuntime) -> Result<(), AllocError> {
     for words in [
         &["--rxq=17", "--cmdline-file=script"],
         &["--rxq=0", "--cmdline-file=script"],
