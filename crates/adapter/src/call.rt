@@ -1,7 +1,7 @@
 //! The calls that a script makes.
 ghost use Rattle.std.specs.Prelude.{◌≡◌};
 
-use crate::held::Held;
+use crate::shared::Shared;
 use flow_rules::RuleSpec;
 use std::alloc::AllocError;
 
@@ -29,9 +29,9 @@ pub enum BadKind {
 #[derive(Clone, Debug, Drop)]
 pub enum Op {
     /// `flow validate`: whether a rule would be taken.
-    Validate(Held<RuleSpec>),
+    Validate(Shared<RuleSpec>),
     /// `flow create`: a rule takes effect.
-    Create(Held<RuleSpec>),
+    Create(Shared<RuleSpec>),
     /// `flow destroy`: the rule of this id goes.
     Destroy(u32),
     /// `flow flush`: all rules go.

@@ -12,8 +12,8 @@ ghost use Rattle.adapter.specs.declared.reply.Reply.TheVariants as replies;
 
 use crate::call::Op;
 use crate::effect::Effect;
-use crate::held::Held;
 use crate::reply::Reply;
+use crate::shared::Shared;
 use crate::standing::Standing;
 use crate::state::State;
 use flow_actions::ActionKind;
@@ -58,7 +58,7 @@ pub(crate) fn judge(
         Op::List => replies(Reply::Listed(standing.state.list(alloc)?)),
         Op::Isolate(on) => does(Reply::Isolated(*on), Effect::Isolated(*on)),
         Op::Start(_) => replies(Reply::Started),
-        Op::Stop => replies(Reply::Stopped(Held::new(alloc, standing.totals)?)),
+        Op::Stop => replies(Reply::Stopped(Shared::new(alloc, standing.totals)?)),
         Op::Quit => replies(Reply::Bye),
         Op::Bad(kind) => replies(Reply::Bad(*kind)),
     };

@@ -1,7 +1,7 @@
 //! What the adapter answers to a call.
 use crate::call::BadKind;
-use crate::held::Held;
 use crate::rows::RuleList;
+use crate::shared::Shared;
 use flow_rules::Fault;
 
 /// Frames counted since the session began.
@@ -28,7 +28,7 @@ pub enum Reply {
     /// Whether frames that no rule takes are dropped from now on.
     Isolated(bool),
     Started,
-    Stopped(Held<Totals>),
+    Stopped(Shared<Totals>),
     /// The script ends.
     Bye,
     Bad(BadKind),

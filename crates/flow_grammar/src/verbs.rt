@@ -6,7 +6,7 @@ ghost use Rattle.rule_words.specs.Vocabulary.{meaning_of};
 
 use crate::op_list::OpList;
 use crate::words::behind;
-use adapter::{Held, Op};
+use adapter::{Op, Shared};
 use flow_actions::Actions;
 use flow_rules::RuleSpec;
 use rule_words::{
@@ -57,14 +57,14 @@ pub(crate) fn read_ops(
             let Some(rule) = read_rule(words) else {
                 return Ok(None);
             };
-            let rule = Held::new(alloc, rule)?;
+            let rule = Shared::new(alloc, rule)?;
             one_op(alloc, Op::Validate(rule))
         }
         Verb::Create => {
             let Some(rule) = read_rule(words) else {
                 return Ok(None);
             };
-            let rule = Held::new(alloc, rule)?;
+            let rule = Shared::new(alloc, rule)?;
             one_op(alloc, Op::Create(rule))
         }
         Verb::Destroy => {

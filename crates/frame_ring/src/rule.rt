@@ -175,9 +175,9 @@ impl Lesson<Buffer, FreeView> for Give {
 }
 
 /// One pass stays, and the others go to a new one.
-pub(crate) struct Cut;
+pub(crate) struct SplitPasses;
 
-impl Split<RingView> for Cut {
+impl Split<RingView> for SplitPasses {
     ghost use Rattle.frame_ring.specs.Steps.{one_pass, other_passes};
 
     ghost left = { one_pass };
@@ -185,7 +185,7 @@ impl Split<RingView> for Cut {
     ghost right = { other_passes };
 }
 
-impl Split<FreeView> for Cut {
+impl Split<FreeView> for SplitPasses {
     ghost use Rattle.frame_ring.specs.Steps.{one_count, other_counts};
 
     ghost left = { one_count };
@@ -194,9 +194,9 @@ impl Split<FreeView> for Cut {
 }
 
 /// One pass takes in another.
-pub(crate) struct Gather;
+pub(crate) struct JoinPasses;
 
-impl Join<RingView> for Gather {
+impl Join<RingView> for JoinPasses {
     ghost use Rattle.frame_ring.specs.Steps.{joined, spent};
 
     ghost both = { joined };
@@ -204,7 +204,7 @@ impl Join<RingView> for Gather {
     ghost spent = { spent };
 }
 
-impl Join<FreeView> for Gather {
+impl Join<FreeView> for JoinPasses {
     ghost use Rattle.frame_ring.specs.Steps.{joined_counts, spent_count};
 
     ghost both = { joined_counts };

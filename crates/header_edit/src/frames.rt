@@ -8,32 +8,17 @@ ghost use Rattle.header_edit.specs.Layers.{first, is_transport};
 ghost use Rattle.header_edit.specs.Frame.{bytes_at, with_checksums, changed, edit_layer, edit_bytes};
 
 use crate::bytes::{mend, mend_udp, word_at, write};
+use packet_headers::places::{
+    IPV4_CHECKSUM, IPV4_DST, IPV4_SRC, IPV4_TTL, IPV6_DST, IPV6_HOP, IPV6_SRC, MAC_SRC, PORT_DST,
+    TCP_CHECKSUM, UDP_CHECKSUM,
+};
 use packet_headers::{Edit, Eth, Ipv4, Ipv6, Key, Network, Stack, Tag, Tags, Transport};
 
-// Where the fields stand in their headers, in bytes. A TTL or a hop limit stands in the word that is
-// named here.
-const MAC_SRC: usize = 6;
+/// The word of IPv4 with the TTL in its high byte.
+const TTL_WORD: usize = IPV4_TTL;
 
-const IPV4_TTL: usize = 8;
-
-const IPV4_SRC: usize = 12;
-
-const IPV4_DST: usize = 16;
-
-const IPV6_HOP: usize = 6;
-
-const IPV6_SRC: usize = 8;
-
-const IPV6_DST: usize = 24;
-
-const PORT_DST: usize = 2;
-
-// Where the checksums stand in their headers.
-const IPV4_CHECKSUM: usize = 10;
-
-const TCP_CHECKSUM: usize = 16;
-
-const UDP_CHECKSUM: usize = 6;
+/// The word of IPv6 with the hop limit in its low byte.
+const HOP_WORD: usize = IPV6_HOP - 1;
 
 /// A byte's place in a word.
 const HIGH: u16 = 256;
@@ -144,23 +129,23 @@ fn edit_ipv4(frame: &mut [u8], header: &Ipv4, transport: &Transport, edit: Edit)
             transport,
         ),
         Edit::DecTtl => {
-            let word = word_at(frame, header.offset as usize + IPV4_TTL);
+            let word = word_at(frame, header.offset as usize + TTL_WORD);
             let word = (word / HIGH).saturating_sub(1) * HIGH + word % HIGH;
             change_ipv4(
                 frame,
                 header,
-                IPV4_TTL,
+                TTL_WORD,
                 &word.to_be_bytes(),
                 &Transport::None,
             );
         }
         Edit::SetTtl(ttl) => {
-            let word = word_at(frame, header.offset as usize + IPV4_TTL);
+            let word = word_at(frame, header.offset as usize + TTL_WORD);
             let word = ttl as u16 * HIGH + word % HIGH;
             change_ipv4(
                 frame,
                 header,
-                IPV4_TTL,
+                TTL_WORD,
                 &word.to_be_bytes(),
                 &Transport::None,
             );
@@ -190,21 +175,21 @@ fn edit_ipv6(frame: &mut [u8], header: &Ipv6, transport: &Transport, edit: Edit)
             transport,
         ),
         Edit::DecTtl => {
-            let word = word_at(frame, offset + IPV6_HOP);
+            let word = word_at(frame, offset + HOP_WORD);
             let word = word / HIGH * HIGH + (word % HIGH).saturating_sub(1);
             change(
                 frame,
-                offset + IPV6_HOP,
+                offset + HOP_WORD,
                 &word.to_be_bytes(),
                 &Transport::None,
             );
         }
         Edit::SetTtl(hop) => {
-            let word = word_at(frame, offset + IPV6_HOP);
+            let word = word_at(frame, offset + HOP_WORD);
             let word = word / HIGH * HIGH + hop as u16;
             change(
                 frame,
-                offset + IPV6_HOP,
+                offset + HOP_WORD,
                 &word.to_be_bytes(),
                 &Transport::None,
             );

@@ -13,8 +13,8 @@ use Rattle.history_text.specs.Rows.{row_text}
 use Rattle.adapter.specs.declared.reply.Totals.{Totals}
 use Rattle.adapter.specs.declared.reply.Reply.{Reply}
 use Rattle.adapter.specs.declared.reply.Reply.TheVariants as replies
-use Rattle.history_text.specs.declared.cause.Place.{Place}
-use Rattle.history_text.specs.declared.cause.Place.TheVariants as places
+use Rattle.history_text.specs.declared.cause.FaultPlace.{FaultPlace}
+use Rattle.history_text.specs.declared.cause.FaultPlace.TheVariants as places
 use Rattle.history_text.specs.declared.kind.Kind.{Kind}
 use Rattle.history_text.specs.declared.kind.Kind.TheVariants as kinds
 use Rattle.history_text.specs.Forms.{form, filled}
@@ -45,7 +45,7 @@ fault-fills causes.TooManyActions at small = (lit< tt, (lit< tt, tt))
 fault-fills causes.GroupRange at small = (lit< tt, tt)
 fault-fills cause at small = (lit< tt, search rules)
 
-place-small : (place : Place) (at : ℕ) → PlaceIsTold place at → at < 2 ^ 64
+place-small : (place : FaultPlace) (at : ℕ) → PlaceIsTold place at → at < 2 ^ 64
 place-small places.Nowhere at none = omega (arith, none)
 place-small places.Item at small = small
 place-small places.Action at small = small
@@ -73,7 +73,7 @@ abbrev rest : List ℕ → List ℕ
 rest [] = []
 rest (n ∷ ns) = ns
 
-abbrev place_in : Place → List ℕ → ℕ
+abbrev place_in : FaultPlace → List ℕ → ℕ
 place_in places.Nowhere ns = 0
 place_in places.Item ns = first ns
 place_in places.Action ns = first ns
@@ -96,7 +96,7 @@ IsPlain kinds.Listed = ⊥
 IsPlain kinds.Stopped = ⊥
 IsPlain kind = Unit
 
-place-back : (place : Place) (at : ℕ) (own : List ℕ) → PlaceIsTold place at → place_in place (place_numbers place at ++ own) ≡ at
+place-back : (place : FaultPlace) (at : ℕ) (own : List ℕ) → PlaceIsTold place at → place_in place (place_numbers place at ++ own) ≡ at
 place-back places.Nowhere at own none = sym none
 place-back places.Item at own small = refl
 place-back places.Action at own small = refl

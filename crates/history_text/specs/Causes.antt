@@ -8,8 +8,8 @@ use Rattle.flow_rules.specs.declared.fault.ErrorType.{ErrorType}
 use Rattle.flow_rules.specs.declared.fault.ErrorType.TheVariants as types
 use Rattle.flow_rules.specs.declared.fault.Fault.{Fault}
 use Rattle.flow_rules.specs.ErrorTypes.{error_type}
-use Rattle.history_text.specs.declared.cause.Place.{Place}
-use Rattle.history_text.specs.declared.cause.Place.TheVariants as places
+use Rattle.history_text.specs.declared.cause.FaultPlace.{FaultPlace}
+use Rattle.history_text.specs.declared.cause.FaultPlace.TheVariants as places
 
 -- an error type's number, and its name behind `RTE_FLOW_ERROR_TYPE_`
 pub record TypeRow : Type 0 where
@@ -37,7 +37,7 @@ type_row types.State = record { number = 17; name = codes "STATE" }
 
 -- the kind of place that a cause names, and its text, with the number in it written `0`, where it has one
 pub record Told : Type 0 where
-  pub place : Place
+  pub place : FaultPlace
   pub text : List ℕ
   pub number : Option ℕ
 
@@ -91,12 +91,12 @@ told_of causes.TooMany = nowhere (codes "too many objects")
 told_of causes.Busy = nowhere (codes "in use")
 told_of causes.AlreadyConfigured = nowhere (codes "already configured")
 
-abbrev pub place_form : Place → List ℕ
+abbrev pub place_form : FaultPlace → List ℕ
 place_form places.Nowhere = []
 place_form places.Item = codes "item 0: "
 place_form places.Action = codes "action 0: "
 
-abbrev pub place_numbers : Place → ℕ → List ℕ
+abbrev pub place_numbers : FaultPlace → ℕ → List ℕ
 place_numbers places.Nowhere at = []
 place_numbers places.Item at = at ∷ []
 place_numbers places.Action at = at ∷ []

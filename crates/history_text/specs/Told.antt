@@ -9,8 +9,8 @@ use Rattle.adapter.specs.declared.rows.ListRow.{ListRow}
 use Rattle.adapter.specs.declared.reply.Totals.{Totals}
 use Rattle.adapter.specs.declared.reply.Reply.{Reply}
 use Rattle.adapter.specs.declared.reply.Reply.TheVariants as replies
-use Rattle.history_text.specs.declared.cause.Place.{Place}
-use Rattle.history_text.specs.declared.cause.Place.TheVariants as places
+use Rattle.history_text.specs.declared.cause.FaultPlace.{FaultPlace}
+use Rattle.history_text.specs.declared.cause.FaultPlace.TheVariants as places
 use Rattle.adapter.specs.declared.entry.Entry.{Entry}
 use Rattle.adapter.specs.declared.entry.Entry.TheVariants.{Asked, Passed}
 use Rattle.adapter.specs.Totals.{totals_of}
@@ -23,7 +23,7 @@ AllU64 [] = Unit
 AllU64 (n ∷ ns) = (n < 2 ^ 64) × AllU64 ns
 
 -- a refusal has a place where its cause names one
-abbrev pub PlaceIsTold : Place → ℕ → Type 0
+abbrev pub PlaceIsTold : FaultPlace → ℕ → Type 0
 PlaceIsTold places.Nowhere at = at ≡ 0
 PlaceIsTold places.Item at = at < 2 ^ 64
 PlaceIsTold places.Action at = at < 2 ^ 64

@@ -17,7 +17,7 @@ pub(crate) type Numbers = ArrayVec<u64, MAX_NUMBERS>;
 
 /// Whether the refusal of a cause names a place.
 #[derive(Clone, Copy)]
-pub(crate) enum Place {
+pub(crate) enum FaultPlace {
     Nowhere,
     /// A place in the list of items.
     Item,
@@ -35,7 +35,7 @@ pub(crate) struct TypeRow {
 /// What is told of a cause.
 #[derive(Clone, Copy)]
 pub(crate) struct CauseRow {
-    place: Place,
+    place: FaultPlace,
     /// The text, with the number in it written `0`.
     text: &'static [u8],
     number: Option<u64>,
@@ -51,10 +51,10 @@ macro_rules! named {
 /// A row of the table of causes.
 macro_rules! told {
     ($place:ident, $text:literal) => {
-        CauseRow { place: Place::$place, text: $text, number: None }
+        CauseRow { place: FaultPlace::$place, text: $text, number: None }
     };
     ($place:ident, $text:literal, $number:literal) => {
-        CauseRow { place: Place::$place, text: $text, number: Some($number) }
+        CauseRow { place: FaultPlace::$place, text: $text, number: Some($number) }
     };
 }
 
@@ -125,13 +125,13 @@ fn told_of(cause: Cause) -> CauseRow
     }
 }
 
-fn place_form(place: Place) -> &'static [u8]
+fn place_form(place: FaultPlace) -> &'static [u8]
     ensures { result.now ≡ place_form place }
 {
     match place {
-        Place::Nowhere => b"",
-        Place::Item => b"item 0: ",
-        Place::Action => b"action 0: ",
+        FaultPlace::Nowhere => b"",
+        FaultPlace::Item => b"item 0: ",
+        FaultPlace::Action => b"action 0: ",
     }
 }
 
@@ -147,15 +147,15 @@ pub(crate) fn refusal_form(cause: Cause) -> Form
 }
 
 /// Adds the place that a refusal names.
-fn push_place(numbers: &mut Numbers, place: Place, at: u16)
+fn push_place(numbers: &mut Numbers, place: FaultPlace, at: u16)
     requires { array_vec_len numbers.old < 4 }
     ensures items { numbers.new.items ≡ numbers.old.items ++ place_numbers place at }
     ensures len { array_vec_len numbers.new ≤ array_vec_len numbers.old + 1 }
 {
     match place {
-        Place::Nowhere => {}
-        Place::Item => numbers.push(at as u64),
-        Place::Action => numbers.push(at as u64),
+        FaultPlace::Nowhere => {}
+        FaultPlace::Item => numbers.push(at as u64),
+        FaultPlace::Action => numbers.push(at as u64),
     }
 }
 

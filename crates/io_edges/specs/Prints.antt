@@ -15,7 +15,7 @@ abbrev pub start_of : {S : Type 0} → (S → Option (List ℕ)) → (S → ℕ)
 start_of taken faults sink = record { taken = taken sink; faults = faults sink }
 
 -- no write failed: what the sink took and what waits is the text
-pub record Whole (start : Start) (now : Gather) (text : List ℕ) : Type 0 where
+pub record AllWritten (start : Start) (now : Gather) (text : List ℕ) : Type 0 where
   pub written : List ℕ
   pub splits : written ++ now.pending ≡ text
   pub took : Appends start.taken now.taken written
@@ -23,14 +23,14 @@ pub record Whole (start : Start) (now : Gather) (text : List ℕ) : Type 0 where
   pub counted : now.sent ≡ min (length written) (2 ^ 64 - 1)
 
 -- a write failed: the sink took a front of the text
-pub record Part (start : Start) (now : Gather) (text : List ℕ) : Type 0 where
+pub record CutShort (start : Start) (now : Gather) (text : List ℕ) : Type 0 where
   pub front : TakesFront start.taken now.taken text now.sent
   pub rose : Rose start.faults now.faults
 
 -- so far this text was printed
 pub record Gathered (start : Start) (now : Gather) (text : List ℕ) : Type 0 where
-  pub whole : now.failed ≡ false → Whole start now text
-  pub part : now.failed ≡ true → Part start now text
+  pub whole : now.failed ≡ false → AllWritten start now text
+  pub part : now.failed ≡ true → CutShort start now text
   pub later : start.faults ≤ now.faults
   pub told : is_some now.taken ≡ is_some start.taken
 

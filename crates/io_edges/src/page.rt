@@ -7,7 +7,7 @@ pub(crate) const PAGE_SIZE: usize = 16384;
 
 /// What became of the writes of a page: whether one failed, and the number of bytes that the sink took.
 #[derive(Clone, Copy)]
-pub(crate) struct Progress {
+pub(crate) struct Sending {
     pub(crate) failed: bool,
     pub(crate) sent: usize,
 }
@@ -21,7 +21,7 @@ pub(crate) struct Progress {
 pub struct Page {
     pub(crate) buffer: [u8; PAGE_SIZE],
     pub(crate) fill: usize,
-    pub(crate) progress: Progress,
+    pub(crate) sending: Sending,
     ghost fits: { fill ≤ 16384 },
 }
 
@@ -32,14 +32,14 @@ impl Page {
     pub fn new() -> Page
         ensures { IsFresh result }
     {
-        let progress = Progress {
+        let sending = Sending {
             failed: false,
             sent: 0,
         };
         Page {
             buffer: [0; PAGE_SIZE],
             fill: 0,
-            progress,
+            sending,
         }
     }
 }

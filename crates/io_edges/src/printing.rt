@@ -5,7 +5,7 @@ ghost use Rattle.io_edges.specs.Gather.{gather_with, gather_of};
 ghost use Rattle.io_edges.specs.Prints.{Prints, Finishes};
 
 use crate::edge::Sink;
-use crate::page::{PAGE_SIZE, Page, Progress};
+use crate::page::{PAGE_SIZE, Page, Sending};
 use crate::writing::{WriteFault, write_all};
 use itoa::{Buffer, Integer};
 
@@ -69,9 +69,9 @@ fn print_through<K: Sink>(sink: &mut K, page: &mut Page, piece: &[u8])
 {
     flush(sink, page);
     if piece.len() > PAGE_SIZE {
-        let mut progress = page.progress;
-        send(sink, &mut progress, piece);
-        page.progress = progress;
+        let mut sending = page.sending;
+        send(sink, &mut sending, piece);
+        page.sending = sending;
         return;
     }
     keep(&mut page.buffer, 0, piece);
@@ -85,27 +85,27 @@ fn flush<K: Sink>(sink: &mut K, page: &mut Page)
     ensures emptied { page.new.fill ≡ 0 }
     ensures keeps { K.keeps sink.old sink.new }
 {
-    let mut progress = page.progress;
-    send(sink, &mut progress, &page.buffer[..page.fill]);
-    page.progress = progress;
+    let mut sending = page.sending;
+    send(sink, &mut sending, &page.buffer[..page.fill]);
+    page.sending = sending;
     page.fill = 0;
 }
 
 /// Sends what waits to the sink, or forgets it where an earlier write failed.
-fn send<K: Sink>(sink: &mut K, progress: &mut Progress, pending: &[u8])
-    ensures prints { Prints (gather_with K.taken K.faults sink.old progress.old pending.now)
-        (gather_with K.taken K.faults sink.new progress.new []) [] }
+fn send<K: Sink>(sink: &mut K, sending: &mut Sending, pending: &[u8])
+    ensures prints { Prints (gather_with K.taken K.faults sink.old sending.old pending.now)
+        (gather_with K.taken K.faults sink.new sending.new []) [] }
     ensures keeps { K.keeps sink.old sink.new }
 {
-    if progress.failed {
+    if sending.failed {
         return;
     }
     let Err(fault) = write_all(sink, pending) else {
-        progress.sent = progress.sent.saturating_add(pending.len());
+        sending.sent = sending.sent.saturating_add(pending.len());
         return;
     };
-    progress.failed = true;
-    progress.sent = progress.sent.saturating_add(fault.sent);
+    sending.failed = true;
+    sending.sent = sending.sent.saturating_add(fault.sent);
 }
 
 /// Ends what was printed on a page. Where a write failed, now or before, just the first `sent` bytes of it were taken.
@@ -116,9 +116,9 @@ pub fn finish<K: Sink>(sink: &mut K, page: Page) -> Result<(), WriteFault>
 {
     let mut page = page;
     flush(sink, &mut page);
-    if page.progress.failed {
+    if page.sending.failed {
         return Err(WriteFault {
-            sent: page.progress.sent,
+            sent: page.sending.sent,
         });
     }
     Ok(())

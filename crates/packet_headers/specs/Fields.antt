@@ -6,21 +6,21 @@ use Rattle.byteorder.specs.Endian.{big_number}
 use Rattle.packet_headers.specs.declared.items.ItemKind.{ItemKind}
 use Rattle.packet_headers.specs.declared.items.ItemKind.TheVariants as kind
 use Rattle.packet_headers.specs.declared.fields.Field.{Field}
-use Rattle.packet_headers.specs.declared.fields.Place.{Place}
-use Rattle.packet_headers.specs.declared.fields.Place.TheVariants.{Bytes, Bits, TagFollows}
+use Rattle.packet_headers.specs.declared.fields.FieldPlace.{FieldPlace}
+use Rattle.packet_headers.specs.declared.fields.FieldPlace.TheVariants.{Bytes, Bits, TagFollows}
 
 -- a field: its word, the width of its number, its default mask, and where its number stands
 pub record FieldOf : Type 0 where
   pub word : List ℕ
   pub bits : ℕ
   pub default_mask : ℕ
-  pub place : Place
+  pub place : FieldPlace
 
 -- a field whose default mask is all ones, and one whose default mask is 0
-abbrev pub matched : List ℕ → ℕ → Place → FieldOf
+abbrev pub matched : List ℕ → ℕ → FieldPlace → FieldOf
 matched word bits place = record { word = word; bits = bits; default_mask = 2 ^ bits - 1; place = place }
 
-abbrev pub ignored : List ℕ → ℕ → Place → FieldOf
+abbrev pub ignored : List ℕ → ℕ → FieldPlace → FieldOf
 ignored word bits place = record { word = word; bits = bits; default_mask = 0; place = place }
 
 abbrev pub fields_of : ItemKind → List FieldOf
@@ -80,7 +80,7 @@ number_of true = 1
 number_of false = 0
 
 -- the number of a field of `bits` bits in a header, behind which a VLAN layer follows or not
-abbrev pub number_in : ℕ → Bool → List ℕ → Place → ℕ
+abbrev pub number_in : ℕ → Bool → List ℕ → FieldPlace → ℕ
 number_in bits tag_follows header (Bytes from count) = number_at from count header
 number_in bits tag_follows header (Bits from count shift) = number_at from count header / 2 ^ shift % 2 ^ bits
 number_in bits tag_follows header TagFollows = number_of tag_follows

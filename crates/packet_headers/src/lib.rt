@@ -26,7 +26,8 @@
 //!
 //! **The field table** (`fields_of`, in `fields.rt`, and for proofs in `specs/Fields.antt`) says for
 //! each kind of item which fields there are, in which order, with which words, widths, default masks
-//! and places. The definition of layers reads the places there, so a header that is read from other
+//! and places. The places are named once, in `places.rt`, from which the readers and the edits take them. The definition
+//! of layers reads the table's places, so a header that is read from other
 //! bytes than the table says isn't proved.
 //!
 //! **What holds.** The headers of `parse` lie in the frame, in rising order and without overlap
@@ -41,11 +42,12 @@ mod headers;
 mod items;
 mod keys;
 mod numbers;
+pub mod places;
 mod reading;
 mod stacks;
 
 pub use edits::Edit;
-pub use fields::{Field, Place, fields_of};
+pub use fields::{Field, FieldPlace, fields_of};
 pub use headers::{Eth, Ipv4, Ipv6, Ipv6Address, Tag, Tcp, Udp, Vxlan};
 pub use items::{ItemKind, Layer, LayerAt};
 pub use keys::Key;

@@ -12,6 +12,11 @@ ghost use Rattle.packet_headers.specs.declared.items.ItemKind.TheVariants as kin
 use crate::headers::{Eth, Ipv4, Ipv6, Ipv6Address, Tag, Tcp, Udp, Vxlan};
 use crate::keys::Key;
 use crate::numbers::{behind, u8_at, u16_at, u24_at, u32_at, u48_at, u128_at};
+use crate::places::{
+    ETH_TYPE, INNER_TYPE, IPV4_DST, IPV4_FRAGMENT, IPV4_PROTO, IPV4_SRC, IPV4_TOS, IPV4_TTL,
+    IPV6_DST, IPV6_FIRST, IPV6_HOP, IPV6_PROTO, IPV6_SRC, MAC_DST, MAC_SRC, PORT_DST, PORT_SRC,
+    TAG_CONTROL, TCP_FLAGS, VNI, VXLAN_FLAGS,
+};
 use crate::stacks::{Network, Stack, Tags, Transport, Tunnel};
 
 // The types of IEEE 802.1Q and 802.1ad, IPv4 and IPv6 behind Ethernet.
@@ -82,9 +87,9 @@ fn read_eth(rest: &[u8], offset: usize, has_vlan: bool) -> Eth
     ensures { headers.eth_layer result ≡ header kind.Eth offset has_vlan rest.now }
 {
     Eth {
-        dst: u48_at(rest, 0),
-        src: u48_at(rest, 6),
-        ether_type: u16_at(rest, 12),
+        dst: u48_at(rest, MAC_DST),
+        src: u48_at(rest, MAC_SRC),
+        ether_type: u16_at(rest, ETH_TYPE),
         has_vlan,
         offset: offset as u8,
     }
@@ -96,10 +101,10 @@ fn read_tag(rest: &[u8], offset: usize, has_more_vlan: bool) -> Tag
     requires offset { offset < 256 }
     ensures { headers.tag_layer result ≡ header kind.Vlan offset has_more_vlan rest.now }
 {
-    let control = u16_at(rest, 0);
+    let control = u16_at(rest, TAG_CONTROL);
     Tag {
         vid: control % 4096,
-        inner_type: u16_at(rest, 2),
+        inner_type: u16_at(rest, INNER_TYPE),
         pcp: (control / 8192 % 8) as u8,
         dei: (control / 4096 % 2) as u8,
         has_more_vlan,
@@ -115,11 +120,11 @@ fn read_ipv4(rest: &[u8], offset: usize) -> Ipv4
     ensures proto { result.proto ≡ number_at 9 1 rest.now }
 {
     Ipv4 {
-        src: u32_at(rest, 12),
-        dst: u32_at(rest, 16),
-        tos: u8_at(rest, 1),
-        ttl: u8_at(rest, 8),
-        proto: u8_at(rest, 9),
+        src: u32_at(rest, IPV4_SRC),
+        dst: u32_at(rest, IPV4_DST),
+        tos: u8_at(rest, IPV4_TOS),
+        ttl: u8_at(rest, IPV4_TTL),
+        proto: u8_at(rest, IPV4_PROTO),
         offset: offset as u8,
     }
 }
@@ -131,14 +136,14 @@ fn read_ipv6(rest: &[u8], offset: usize) -> Ipv6
     ensures layer { headers.ipv6_layer result ≡ header kind.Ipv6 offset false rest.now }
     ensures proto { result.proto ≡ number_at 6 1 rest.now }
 {
-    let first = u32_at(rest, 0);
+    let first = u32_at(rest, IPV6_FIRST);
     Ipv6 {
-        src: Ipv6Address::new(u128_at(rest, 8)),
-        dst: Ipv6Address::new(u128_at(rest, 24)),
+        src: Ipv6Address::new(u128_at(rest, IPV6_SRC)),
+        dst: Ipv6Address::new(u128_at(rest, IPV6_DST)),
         flow: first % 1048576,
         tc: (first / 1048576 % 256) as u8,
-        proto: u8_at(rest, 6),
-        hop: u8_at(rest, 7),
+        proto: u8_at(rest, IPV6_PROTO),
+        hop: u8_at(rest, IPV6_HOP),
         offset: offset as u8,
     }
 }
@@ -150,9 +155,9 @@ fn read_tcp(rest: &[u8], offset: usize) -> Tcp
     ensures { headers.tcp_layer result ≡ header kind.Tcp offset false rest.now }
 {
     Tcp {
-        src: u16_at(rest, 0),
-        dst: u16_at(rest, 2),
-        flags: u8_at(rest, 13),
+        src: u16_at(rest, PORT_SRC),
+        dst: u16_at(rest, PORT_DST),
+        flags: u8_at(rest, TCP_FLAGS),
         offset: offset as u8,
     }
 }
@@ -165,8 +170,8 @@ fn read_udp(rest: &[u8], offset: usize) -> Udp
     ensures dst { result.dst ≡ number_at 2 2 rest.now }
 {
     Udp {
-        src: u16_at(rest, 0),
-        dst: u16_at(rest, 2),
+        src: u16_at(rest, PORT_SRC),
+        dst: u16_at(rest, PORT_DST),
         offset: offset as u8,
     }
 }
@@ -178,7 +183,7 @@ fn read_vxlan(rest: &[u8], offset: usize) -> Vxlan
     ensures { headers.vxlan_layer result ≡ header kind.Vxlan offset false rest.now }
 {
     Vxlan {
-        vni: u24_at(rest, 4),
+        vni: u24_at(rest, VNI),
         offset: offset as u8,
     }
 }
@@ -278,7 +283,7 @@ fn is_first_fragment(rest: &[u8]) -> bool
     requires { IPV4_LEN ≤ length rest.now }
     ensures { result ≡ is_first_fragment rest.now }
 {
-    u16_at(rest, 6) % 8192 == 0
+    u16_at(rest, IPV4_FRAGMENT) % 8192 == 0
 }
 
 /// The network header that a type announces, and what it carries.
@@ -327,7 +332,7 @@ fn read_typed(rest: &[u8], offset: usize, ether_type: u16) -> Upper<'_>
         upper.tags = Tags::None;
         return upper;
     }
-    let inner_type = u16_at(rest, 2);
+    let inner_type = u16_at(rest, INNER_TYPE);
     let behind_tag = behind(rest, TAG_LEN);
     if !is_tag(behind_tag, inner_type) {
         let mut upper = read_network(behind_tag, offset + TAG_LEN, inner_type);
@@ -339,7 +344,7 @@ fn read_typed(rest: &[u8], offset: usize, ether_type: u16) -> Upper<'_>
     let mut upper = read_network(
         behind(behind_tag, TAG_LEN),
         offset + 2 * TAG_LEN,
-        u16_at(behind_tag, 2),
+        u16_at(behind_tag, INNER_TYPE),
     );
     upper.tags = Tags::Two(first, second);
     upper
@@ -353,7 +358,7 @@ fn read_frame(rest: &[u8], offset: usize) -> Reading<'_>
         ≡ frame_layers inside offset rest.now }
     ensures payload { IfSome result.payload (λ p. p.offset ≤ offset + 90) }
 {
-    let ether_type = u16_at(rest, 12);
+    let ether_type = u16_at(rest, ETH_TYPE);
     let behind_eth = behind(rest, ETH_LEN);
     let eth = read_eth(rest, offset, is_tag(behind_eth, ether_type));
     let upper = read_typed(behind_eth, offset + ETH_LEN, ether_type);
@@ -380,7 +385,7 @@ fn read_tunnel(payload: Option<Payload<'_>>) -> Option<Tunnel>
     if rest.len() < VXLAN_LEN {
         return None;
     }
-    if u8_at(rest, 0) & VALID_VNI != VALID_VNI {
+    if u8_at(rest, VXLAN_FLAGS) & VALID_VNI != VALID_VNI {
         return None;
     }
     Some(Tunnel {

@@ -5,7 +5,7 @@ ghost use Rattle.rule_words.specs.Actions.{FitsIn};
 ghost use Rattle.rule_words.specs.Value.{width_of};
 ghost use Rattle.rule_words.specs.Vocabulary.{meaning_of};
 
-use crate::turns::{Turn, behind, read_up_to};
+use crate::turns::{TurnReader, behind, read_up_to};
 use crate::value::{Form, read_value};
 use crate::vocabulary::meaning;
 use arrayvec::ArrayVec;
@@ -63,7 +63,7 @@ fn with_word(action: Action, name: &[u8], word: &[u8]) -> Option<Action>
     Some(with_value(action, value))
 }
 
-impl Turn for Action {
+impl TurnReader for Action {
     ghost turn = { spec.setting };
 
     /// A word and the value behind it.
@@ -79,7 +79,7 @@ impl Turn for Action {
     }
 }
 
-impl Turn for Actions {
+impl TurnReader for Actions {
     ghost turn = { spec.action_behind };
 
     /// An action and its `/`.

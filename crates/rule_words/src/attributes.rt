@@ -5,7 +5,7 @@ ghost use Rattle.rule_words.specs.Number.{first_number};
 ghost use Rattle.rule_words.specs.Vocabulary.{meaning_of};
 
 use crate::number::number_of_bits;
-use crate::turns::{Turn, behind, read_up_to};
+use crate::turns::{TurnReader, behind, read_up_to};
 use crate::vocabulary::meaning;
 use flow_rules::Attr;
 
@@ -34,7 +34,7 @@ fn word_meaning(word: &[u8]) -> Option<AttrWord>
     meaning(&WORDS, word)
 }
 
-impl Turn for Attr {
+impl TurnReader for Attr {
     ghost turn = { spec.attribute };
 
     /// A direction, or the word of a number with the number.

@@ -5,7 +5,7 @@ ghost use Rattle.rule_words.specs.Vocabulary.{meaning_of};
 
 use crate::field_words::named_by;
 use crate::relations::{related, relation_of};
-use crate::turns::{Turn, behind, read_up_to};
+use crate::turns::{TurnReader, behind, read_up_to};
 use crate::vocabulary::meaning;
 use arrayvec::ArrayVec;
 use packet_headers::ItemKind;
@@ -50,7 +50,7 @@ fn with_field(item: Item, word: &[u8], relation: &[u8], value: &[u8]) -> Option<
     related(item, named, how, value)
 }
 
-impl Turn for Item {
+impl TurnReader for Item {
     ghost turn = { spec.field };
 
     /// A field, a relation and a value.
@@ -66,7 +66,7 @@ impl Turn for Item {
     }
 }
 
-impl Turn for Pattern {
+impl TurnReader for Pattern {
     ghost turn = { spec.item_behind };
 
     /// An item and its `/`.

@@ -3,7 +3,7 @@ ghost use Rattle.std.specs.Prelude.{◌≡◌, ◌≤◌, ℕ, List, Option, IfS
 ghost use Rattle.rule_words.specs.Turns.{up_to};
 
 /// A value of which words say something, turn by turn.
-pub(crate) trait Turn {
+pub(crate) trait TurnReader {
     ghost turn: { Self → List (List ℕ) → Option (Self × List (List ℕ)) };
 
     /// Takes in what the first words say, and tells how many they are.
@@ -14,7 +14,11 @@ pub(crate) trait Turn {
 }
 
 /// Takes in what words say of a value up to the ending word, and tells how many they are with this one.
-pub(crate) fn read_up_to<T: Turn>(ending: &[u8], value: &mut T, words: &[&[u8]]) -> Option<usize>
+pub(crate) fn read_up_to<T: TurnReader>(
+    ending: &[u8],
+    value: &mut T,
+    words: &[&[u8]],
+) -> Option<usize>
     ensures value { option_map (λ taken. (value.new, drop taken (map (λ word. word.now) words.now))) result
         ≡ up_to ending.now T.turn value.old (map (λ word. word.now) words.now) }
     ensures few { IfSome result (λ taken. taken ≤ length words.now) }

@@ -4,7 +4,7 @@ use Rattle.std.proofs.lemmas.List.{get_or-set_other}
 use Rattle.std.proofs.lemmas.Option.{slice_get_within, slice_get-get_or, get_or_from_slice_get}
 use Rattle.slot_pool.specs.declared.place.Place.{Place}
 use Rattle.slot_pool.specs.declared.place.Place.TheVariants.{Free, Filled}
-use Rattle.slot_pool.specs.declared.place.Held.{Held}
+use Rattle.slot_pool.specs.declared.place.Resident.{Resident}
 use Rattle.slot_pool.specs.Place.{IsFreeList}
 
 pub slice_get-append_left : {X : Type 0} (xs ys : List X) (i : ℕ) (x : X) → slice_get xs i ≡ Some x → slice_get (xs ++ ys) i ≡ Some x
@@ -42,7 +42,7 @@ module _ {T : Type 0} where
       (p.0, p.1, p.2, kept, IsFreeList-set ps at place n p.1 (λ m below. off m (omega arith)) p.4)
 
   -- a filled place is on no list of free ones
-  pub filled_is_off : (ps : List (Place T)) (at : ℕ) (held : Held T) → slice_get ps at ≡ Some (Filled held) → (m : ℕ) → IsFreeList ps (suc m) (Some at) → ⊥
+  pub filled_is_off : (ps : List (Place T)) (at : ℕ) (held : Resident T) → slice_get ps at ≡ Some (Filled held) → (m : ℕ) → IsFreeList ps (suc m) (Some at) → ⊥
   filled_is_off ps at held found m p =
       let same = p.2 in
       let index : at ≡ p.0 = cc in

@@ -5,23 +5,23 @@ use Rattle.std.proofs.lemmas.Bool.Decides.{eqb_tells}
 use Rattle.std.proofs.lemmas.Option.{cond_some}
 use Rattle.std.proofs.lemmas.List.{get_or_past}
 use Rattle.slot_pool.specs.declared.handle.Handle.{Handle}
-use Rattle.slot_pool.specs.declared.place.Held.{Held}
+use Rattle.slot_pool.specs.declared.place.Resident.{Resident}
 use Rattle.slot_pool.specs.declared.place.Place.{Place}
 use Rattle.slot_pool.specs.declared.place.Place.TheVariants.{Free, Filled}
 use Rattle.slot_pool.specs.Place.{held_under, place_at, numbered}
 use Rattle.slot_pool.proofs.Handles.{option_cases}
 
 module _ {T : Type 0} where
-  pub held_under-some : (number : ℕ) (place : Place T) (held : Held T) → held_under number place ≡ Some held → (place ≡ Filled held) × (held.number ≡ number)
+  pub held_under-some : (number : ℕ) (place : Place T) (held : Resident T) → held_under number place ≡ Some held → (place ≡ Filled held) × (held.number ≡ number)
   held_under-some number (Free next) held e = absurd (cc)
   held_under-some number (Filled h) held e =
       let parts = cond_some _ h held e in
       (ap Filled parts.1, ap (λ x. x.number) (sym parts.1) ∙ eqb-true h.number number parts.0)
 
-  pub held_under-filled : (number : ℕ) (held : Held T) → held.number ≡ number → held_under number (Filled held) ≡ Some held
+  pub held_under-filled : (number : ℕ) (held : Resident T) → held.number ≡ number → held_under number (Filled held) ≡ Some held
   held_under-filled number held same = rw (eq-eqb held.number number same) refl
 
-  pub held_under-other : (number : ℕ) (held : Held T) → held.number ≢ number → held_under number (Filled held) ≡ None
+  pub held_under-other : (number : ℕ) (held : Resident T) → held.number ≢ number → held_under number (Filled held) ≡ None
   held_under-other number held differs =
       elim (eqb_tells held.number number) [ inl same ↦ absurd (differs same.1) | inr other ↦ rw other.0 refl ]
 
@@ -31,7 +31,7 @@ module _ {T : Type 0} where
       let here : held_under n p ≡ None = none 0 in
       rw here (numbered-none (first + 1) ps n (λ j. none (suc j)))
 
-  pub numbered-some : (first : ℕ) (ps : List (Place T)) (n i : ℕ) (held : Held T) → held_under n (place_at ps i) ≡ Some held → ((j : ℕ) → j ≢ i → held_under n (place_at ps j) ≡ None) → numbered first ps n ≡ Some (record { number = held.number; place = first + i }, held.value)
+  pub numbered-some : (first : ℕ) (ps : List (Place T)) (n i : ℕ) (held : Resident T) → held_under n (place_at ps i) ≡ Some held → ((j : ℕ) → j ≢ i → held_under n (place_at ps j) ≡ None) → numbered first ps n ≡ Some (record { number = held.number; place = first + i }, held.value)
   numbered-some first [] n i held found others = absurd (cc)
   numbered-some first (p ∷ ps) n zero held found others =
       let here : held_under n p ≡ Some held = found in
@@ -49,7 +49,7 @@ module _ {T : Type 0} where
       rw (here, numbered-same (first + 1) ps qs n (λ j. same (suc j))) refl
 
   -- an entry that a number finds is what some place holds
-  pub numbered-place : (first : ℕ) (ps : List (Place T)) (n : ℕ) (e : Handle × T) → numbered first ps n ≡ Some e → (j : ℕ) × (held : Held T) × (held_under n (place_at ps j) ≡ Some held) × (e ≡ (record { number = held.number; place = first + j }, held.value))
+  pub numbered-place : (first : ℕ) (ps : List (Place T)) (n : ℕ) (e : Handle × T) → numbered first ps n ≡ Some e → (j : ℕ) × (held : Resident T) × (held_under n (place_at ps j) ≡ Some held) × (e ≡ (record { number = held.number; place = first + j }, held.value))
   numbered-place first [] n e found = absurd (cc)
   numbered-place first (p ∷ ps) n e found =
       elim (option_cases (held_under n p)) [
@@ -62,7 +62,7 @@ module _ {T : Type 0} where
             (0, some.0, some.1, rw add-zero (cc))
       ]
 
-  pub within : (ps : List (Place T)) (n i : ℕ) (held : Held T) → held_under n (place_at ps i) ≡ Some held → i < length ps
+  pub within : (ps : List (Place T)) (n i : ℕ) (held : Resident T) → held_under n (place_at ps i) ≡ Some held → i < length ps
   within ps n i held found =
       elim (cases_lt i (length ps)) [
         | inl less ↦ less

@@ -6,7 +6,7 @@ use Rattle.std.proofs.lemmas.Option.{slice_get-get_or}
 use Rattle.std.specs.Map.{lookup}
 use Rattle.std.specs.Option.{option_to_list}
 use Rattle.slot_pool.specs.declared.handle.Handle.{Handle}
-use Rattle.slot_pool.specs.declared.place.Held.{Held}
+use Rattle.slot_pool.specs.declared.place.Resident.{Resident}
 use Rattle.slot_pool.specs.declared.place.Place.{Place}
 use Rattle.slot_pool.specs.declared.place.Place.TheVariants.{Free, Filled}
 use Rattle.slot_pool.specs.Handle.{same_handle}
@@ -23,11 +23,11 @@ module _ {T : Type 0} where
   place_at-set_other ps i j p differs = get_or-set_other ps i j p (Free None) differs
 
   -- what is read at a place with a value or without one
-  pub filled_at : (ps : List (Place T)) (n i : ℕ) (held : Held T) → held_under n (place_at ps i) ≡ Some held → slice_get ps i ≡ Some (Filled held)
+  pub filled_at : (ps : List (Place T)) (n i : ℕ) (held : Resident T) → held_under n (place_at ps i) ≡ Some held → slice_get ps i ≡ Some (Filled held)
   filled_at ps n i held found =
       slice_get-get_or ps i (Free None) (within ps n i held found) ∙ ap Some (held_under-some n _ held found).0
 
-  some_true : (n i : ℕ) (ps : List (Place T)) (held : Held T) → held_under n (place_at ps i) ≡ Some held → is_some (held_under n (place_at ps i)) ≡ true
+  some_true : (n i : ℕ) (ps : List (Place T)) (held : Resident T) → held_under n (place_at ps i) ≡ Some held → is_some (held_under n (place_at ps i)) ≡ true
   some_true n i ps held found = ap is_some found
 
   none_from : (n i : ℕ) (ps : List (Place T)) → (is_some (held_under n (place_at ps i)) ≡ true → ⊥) → held_under n (place_at ps i) ≡ None
@@ -38,7 +38,7 @@ module _ {T : Type 0} where
       ]
 
   -- a number stands at one place alone
-  pub only_here : (ps : List (Place T)) (free : Option ℕ) (puts : ℕ) → IsSound ps free puts → (n i : ℕ) (held : Held T) → held_under n (place_at ps i) ≡ Some held → (j : ℕ) → j ≢ i → held_under n (place_at ps j) ≡ None
+  pub only_here : (ps : List (Place T)) (free : Option ℕ) (puts : ℕ) → IsSound ps free puts → (n i : ℕ) (held : Resident T) → held_under n (place_at ps i) ≡ Some held → (j : ℕ) → j ≢ i → held_under n (place_at ps j) ≡ None
   only_here ps free puts sound n i held found j differs =
       none_from n j ps (λ there. differs (sound.unique j i n there (some_true n i ps held found)))
 
@@ -47,7 +47,7 @@ module _ {T : Type 0} where
       let place = numbered-place 0 ps n e found in
       ap (λ p. p.0.number) place.3 ∙ (held_under-some n _ place.1 place.2).1
 
-  pub numbered-held : (ps : List (Place T)) (free : Option ℕ) (puts : ℕ) → IsSound ps free puts → (q : Handle) (held : Held T) → held_at ps q ≡ Some held → numbered 0 ps q.number ≡ Some (q, held.value)
+  pub numbered-held : (ps : List (Place T)) (free : Option ℕ) (puts : ℕ) → IsSound ps free puts → (q : Handle) (held : Resident T) → held_at ps q ≡ Some held → numbered 0 ps q.number ≡ Some (q, held.value)
   numbered-held ps free puts sound q held found =
       let own = (held_under-some q.number _ held found).1 in
       let entry = numbered-some 0 ps q.number q.place held found (only_here ps free puts sound q.number q.place held found) in

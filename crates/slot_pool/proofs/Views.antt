@@ -3,7 +3,7 @@ use Rattle.std.proofs.Common.{◌≡◌, ℕ, zero, suc, ◌+◌, ◌<◌, ◌�
 use Rattle.std.proofs.lemmas.Option.{slice_get_within, slice_get_read}
 use Rattle.std.proofs.lemmas.List.Elements.{All-append, All-cons, All-nil}
 use Rattle.slot_pool.specs.declared.handle.Handle.{Handle}
-use Rattle.slot_pool.specs.declared.place.Held.{Held}
+use Rattle.slot_pool.specs.declared.place.Resident.{Resident}
 use Rattle.slot_pool.specs.declared.place.Place.{Place}
 use Rattle.slot_pool.specs.declared.place.Place.TheVariants.{Free, Filled}
 use Rattle.slot_pool.specs.Handle.{same_handle}
@@ -46,7 +46,7 @@ module _ {T : Type 0} where
   pub free_within : (ps : List (Place T)) (count i : ℕ) → IsFreeList ps count (Some i) → i < length ps
   free_within ps count i linked = let free = free_place ps count i linked in slice_get_within ps i _ free.1
 
-  pub free_not_filled : (ps : List (Place T)) (count i : ℕ) (held : Held T) → IsFreeList ps count (Some i) → slice_get ps i ≡ Some (Filled held) → ⊥
+  pub free_not_filled : (ps : List (Place T)) (count i : ℕ) (held : Resident T) → IsFreeList ps count (Some i) → slice_get ps i ≡ Some (Filled held) → ⊥
   free_not_filled ps count i held linked found =
       let free = free_place ps count i linked in
       let there = free.1 in
@@ -58,7 +58,7 @@ module _ {T : Type 0} where
 
   pub unchained-put : (ps : List (Place T)) (i puts : ℕ) (value : T) → i < length ps → IsUnchained (links_from 0 (set ps i (Filled (record { value = value; number = puts; link = None })))) (record { number = puts; place = i })
   unchained-put ps i puts value inside =
-      let there : Held T = record { value = value; number = puts; link = None } in
+      let there : Resident T = record { value = value; number = puts; link = None } in
       link_of-links_from (set ps i (Filled there)) (record { number = puts; place = i })
       ∙ ap link_in (ap (held_under puts) (place_at-set_same ps i (Filled there) inside) ∙ held_under-filled puts there refl)
 
@@ -68,13 +68,13 @@ module _ {T : Type 0} where
       omega (arith, sound.total, rest.1)
 
   -- what is read where a value is held
-  pub read_held : (ps : List (Place T)) (q : Handle) (held : Held T) (place : Place T) → held_at ps q ≡ Some held → place ≡ get_or ps q.place place → place ≡ Filled held
+  pub read_held : (ps : List (Place T)) (q : Handle) (held : Resident T) (place : Place T) → held_at ps q ≡ Some held → place ≡ get_or ps q.place place → place ≡ Filled held
   read_held ps q held place found read =
       let there = slice_get_read ps (length ps) q.place place refl (within ps q.number q.place held found) read in
       let same = filled_at ps q.number q.place held found in
       cc
 
-  pub pool_of-freed : (ps : List (Place T)) (free : Option ℕ) (puts : ℕ) (q : Handle) (held : Held T) → IsSound ps free puts → held_at ps q ≡ Some held → IsUnchained (links_from 0 ps) q → pool_of (set ps q.place (Free free)) puts ≡ without (pool_of ps puts) q
+  pub pool_of-freed : (ps : List (Place T)) (free : Option ℕ) (puts : ℕ) (q : Handle) (held : Resident T) → IsSound ps free puts → held_at ps q ≡ Some held → IsUnchained (links_from 0 ps) q → pool_of (set ps q.place (Free free)) puts ≡ without (pool_of ps puts) q
   pool_of-freed ps free puts q held sound found unchained =
       let inside = within ps q.number q.place held found in
       let place = (held_under-some q.number _ held found).0 in
@@ -82,7 +82,7 @@ module _ {T : Type 0} where
       let entries : links_at q.place (place_at ps q.place) ≡ [] = ap (links_at q.place) place ∙ ap (link_entry q.place held.number) none in
       Pool-same _ _ (values-freed ps free puts sound q held found) (length-set ps q.place _) refl (links_from-set ps q.place (Free free) inside (sym entries))
 
-  pub pool_of-refilled : (ps : List (Place T)) (free : Option ℕ) (puts : ℕ) (q : Handle) (held : Held T) (value : T) → IsSound ps free puts → held_at ps q ≡ Some held → pool_of (set ps q.place (refilled (Filled held) value)) puts ≡ with_value (pool_of ps puts) q value
+  pub pool_of-refilled : (ps : List (Place T)) (free : Option ℕ) (puts : ℕ) (q : Handle) (held : Resident T) (value : T) → IsSound ps free puts → held_at ps q ≡ Some held → pool_of (set ps q.place (refilled (Filled held) value)) puts ≡ with_value (pool_of ps puts) q value
   pool_of-refilled ps free puts q held value sound found =
       let inside = within ps q.number q.place held found in
       let place = (held_under-some q.number _ held found).0 in
@@ -104,7 +104,7 @@ module _ {T : Type 0} where
         | inr some ↦ absurd (true≢false (sym (not_some ∙ ap is_some some.1)))
       ]
 
-  pub held_some : (ps : List (Place T)) (q : Handle) → true ≡ is_some (held_at ps q) → (held : Held T) × (held_at ps q ≡ Some held)
+  pub held_some : (ps : List (Place T)) (q : Handle) → true ≡ is_some (held_at ps q) → (held : Resident T) × (held_at ps q ≡ Some held)
   held_some ps q is_there =
       elim (option_cases (held_at ps q)) [
         | inl none ↦ absurd (true≢false (is_there ∙ ap is_some none))
@@ -116,7 +116,7 @@ module _ {T : Type 0} where
       let held = held_some ps q is_there in
       ap is_some (lookup-values ps free puts sound q ∙ ap value_of held.1)
 
-  pub gone : (ps : List (Place T)) (free : Option ℕ) (puts : ℕ) (q : Handle) (held : Held T) → IsSound ps free puts → held_at ps q ≡ Some held → get (pool_of (set ps q.place (Free free)) puts) q ≡ None
+  pub gone : (ps : List (Place T)) (free : Option ℕ) (puts : ℕ) (q : Handle) (held : Resident T) → IsSound ps free puts → held_at ps q ≡ Some held → get (pool_of (set ps q.place (Free free)) puts) q ≡ None
   gone ps free puts q held sound found =
       let freed : held_at (set ps q.place (Free free)) q ≡ None = ap (held_under q.number) (place_at-set_same ps q.place (Free free) (within ps q.number q.place held found)) in
       lookup-values (set ps q.place (Free free)) (Some q.place) puts (IsSound-freed ps free puts sound q held found) q ∙ ap value_of freed
@@ -139,7 +139,7 @@ module _ {T : Type 0} where
 
   pub found-put : (ps : List (Place T)) (i puts : ℕ) (next : Option ℕ) (value : T) → IsSound ps (Some i) puts → slice_get ps i ≡ Some (Free next) → get (pool_of (set ps i (Filled (record { value = value; number = puts; link = None }))) (puts + 1)) (record { number = puts; place = i }) ≡ Some value
   found-put ps i puts next value sound found =
-      let there : Held T = record { value = value; number = puts; link = None } in
+      let there : Resident T = record { value = value; number = puts; link = None } in
       let inside = slice_get_within ps i _ found in
       lookup-values _ next (puts + 1) (IsSound-put ps i puts next value sound found) (record { number = puts; place = i })
       ∙ ap value_of (ap (held_under puts) (place_at-set_same ps i (Filled there) inside) ∙ held_under-filled puts there refl)
@@ -159,6 +159,6 @@ module _ {T : Type 0} where
       let handle : Handle = record { number = puts; place = i } in
       subst (λ (new : Pool T). KeepsOtherValues (pool_of ps puts) new handle) (sym (pool_of-put ps i puts next value sound found)) (others-with_put (pool_of ps puts) handle value)
 
-  pub others-freed : (ps : List (Place T)) (free : Option ℕ) (puts : ℕ) (q : Handle) (held : Held T) → IsSound ps free puts → held_at ps q ≡ Some held → IsUnchained (links_from 0 ps) q → KeepsOtherValues (pool_of ps puts) (pool_of (set ps q.place (Free free)) puts) q
+  pub others-freed : (ps : List (Place T)) (free : Option ℕ) (puts : ℕ) (q : Handle) (held : Resident T) → IsSound ps free puts → held_at ps q ≡ Some held → IsUnchained (links_from 0 ps) q → KeepsOtherValues (pool_of ps puts) (pool_of (set ps q.place (Free free)) puts) q
   others-freed ps free puts q held sound found unchained =
       subst (λ (new : Pool T). KeepsOtherValues (pool_of ps puts) new q) (sym (pool_of-freed ps free puts q held sound found unchained)) (others-without (pool_of ps puts) q)

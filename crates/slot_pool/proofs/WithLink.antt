@@ -3,7 +3,7 @@ use Rattle.std.proofs.Common.{◌≡◌, ◌≢◌, ℕ, List, length, Option, S
 use Rattle.std.proofs.lemmas.Bool.{cases_eq}
 use Rattle.slot_pool.specs.declared.handle.Handle.{Handle}
 use Rattle.slot_pool.specs.declared.chain.Link.{Link}
-use Rattle.slot_pool.specs.declared.place.Held.{Held}
+use Rattle.slot_pool.specs.declared.place.Resident.{Resident}
 use Rattle.slot_pool.specs.declared.place.Place.{Place}
 use Rattle.slot_pool.specs.declared.place.Place.TheVariants.{Filled}
 use Rattle.slot_pool.specs.Pool.{Lives}
@@ -18,42 +18,42 @@ use Rattle.slot_pool.proofs.Relinked.{Sets, SetsAt}
 
 module _ {T : Type 0} where
   -- a handle that finds a link is held
-  pub held_from_link : (ps : List (Place T)) (q : Handle) (link : Link) → link_of (links_from 0 ps) q ≡ Some link → (held : Held T) × (held_at ps q ≡ Some held)
+  pub held_from_link : (ps : List (Place T)) (q : Handle) (link : Link) → link_of (links_from 0 ps) q ≡ Some link → (held : Resident T) × (held_at ps q ≡ Some held)
   held_from_link ps q link found =
       elim (option_cases (held_at ps q)) [
         | inl none ↦ absurd (let bad = sym (ap link_in none) ∙ sym (link_of-links_from ps q) ∙ found in cc)
         | inr some ↦ some
       ]
 
-  pub held_from_lives : (ps : List (Place T)) (free : Option ℕ) (puts : ℕ) (q : Handle) → IsSound ps free puts → Lives (pool_of ps puts) q → (held : Held T) × (held_at ps q ≡ Some held)
+  pub held_from_lives : (ps : List (Place T)) (free : Option ℕ) (puts : ℕ) (q : Handle) → IsSound ps free puts → Lives (pool_of ps puts) q → (held : Resident T) × (held_at ps q ≡ Some held)
   held_from_lives ps free puts q sound lives =
       elim (option_cases (held_at ps q)) [
         | inl none ↦ absurd (let bad = sym lives ∙ ap is_some (lookup-values ps free puts sound q ∙ ap value_of none) in cc)
         | inr some ↦ some
       ]
 
-  pub lives_from_held : (ps : List (Place T)) (free : Option ℕ) (puts : ℕ) (q : Handle) (held : Held T) → IsSound ps free puts → held_at ps q ≡ Some held → Lives (pool_of ps puts) q
+  pub lives_from_held : (ps : List (Place T)) (free : Option ℕ) (puts : ℕ) (q : Handle) (held : Resident T) → IsSound ps free puts → held_at ps q ≡ Some held → Lives (pool_of ps puts) q
   lives_from_held ps free puts q held sound found = ap is_some (lookup-values ps free puts sound q ∙ ap value_of found)
 
-  held_at-with_link_same : (ps : List (Place T)) (handle : Handle) (link : Option Link) (held : Held T) → held_at ps handle ≡ Some held → held_at (with_link ps handle link) handle ≡ Some (record held { link = link })
+  held_at-with_link_same : (ps : List (Place T)) (handle : Handle) (link : Option Link) (held : Resident T) → held_at ps handle ≡ Some held → held_at (with_link ps handle link) handle ≡ Some (record held { link = link })
   held_at-with_link_same ps handle link held found =
       let inside = within ps handle.number handle.place held found in
       let own = (held_under-some handle.number _ held found).1 in
-      let new : Held T = record held { link = link } in
-      ap (λ (o : Option (Held T)). held_at (relinked ps handle link o) handle) found
+      let new : Resident T = record held { link = link } in
+      ap (λ (o : Option (Resident T)). held_at (relinked ps handle link o) handle) found
       ∙ ap (held_under handle.number) (place_at-set_same ps handle.place (Filled new) inside)
       ∙ held_under-filled handle.number new own
 
   pub held_at-with_link_other : (ps : List (Place T)) (handle q : Handle) (link : Option Link) → q ≢ handle → held_at (with_link ps handle link) q ≡ held_at ps q
   held_at-with_link_other ps handle q link differs =
       elim (option_cases (held_at ps handle)) [
-        | inl none ↦ ap (λ (o : Option (Held T)). held_at (relinked ps handle link o) q) none
+        | inl none ↦ ap (λ (o : Option (Resident T)). held_at (relinked ps handle link o) q) none
         | inr some ↦
-            ap (λ (o : Option (Held T)). held_at (relinked ps handle link o) q) some.1
+            ap (λ (o : Option (Resident T)). held_at (relinked ps handle link o) q) some.1
             ∙ elim (cases_eq q.place handle.place) [
               | inl same ↦
                   let held = some.0 in
-                  let new : Held T = record held { link = link } in
+                  let new : Resident T = record held { link = link } in
                   let place = held_under-some handle.number _ held some.1 in
                   let number : held.number ≢ q.number = λ e. differs (Handle-same q handle same (sym e ∙ place.1)) in
                   let inside = within ps handle.number handle.place held some.1 in
@@ -66,7 +66,7 @@ module _ {T : Type 0} where
             ]
       ]
 
-  pub Sets-with_link : (ps : List (Place T)) (handle : Handle) (link : Option Link) (held : Held T) → held_at ps handle ≡ Some held → Sets (link_of (links_from 0 ps)) (link_of (links_from 0 (with_link ps handle link))) handle link
+  pub Sets-with_link : (ps : List (Place T)) (handle : Handle) (link : Option Link) (held : Resident T) → held_at ps handle ≡ Some held → Sets (link_of (links_from 0 ps)) (link_of (links_from 0 (with_link ps handle link))) handle link
   Sets-with_link ps handle link held found =
       record {
         here = link_of-links_from (with_link ps handle link) handle ∙ ap link_in (held_at-with_link_same ps handle link held found);
@@ -93,7 +93,7 @@ module _ {T : Type 0} where
         | inl none ↦ rw none (StillHolds-same ps free puts sound)
         | inr some ↦
             let held = some.0 in
-            let new : Held T = record held { link = link } in
+            let new : Resident T = record held { link = link } in
             rw some.1 (record {
               sound = IsSound-refilled ps free puts sound handle held some.1 new refl;
               values = values-kept ps free puts sound handle held some.1 new refl refl;

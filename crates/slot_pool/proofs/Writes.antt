@@ -6,7 +6,7 @@ use Rattle.std.proofs.lemmas.Map.{length-set_value}
 use Rattle.std.proofs.lemmas.Option.{slice_get_within, slice_get-get_or, get_or_from_slice_get}
 use Rattle.std.specs.Map.{lookup, remove_entry, set_value}
 use Rattle.slot_pool.specs.declared.handle.Handle.{Handle}
-use Rattle.slot_pool.specs.declared.place.Held.{Held}
+use Rattle.slot_pool.specs.declared.place.Resident.{Resident}
 use Rattle.slot_pool.specs.declared.place.Place.{Place}
 use Rattle.slot_pool.specs.declared.place.Place.TheVariants.{Free, Filled}
 use Rattle.slot_pool.specs.Handle.{same_handle}
@@ -27,7 +27,7 @@ module _ {T : Type 0} where
         | inr differs ↦ ap (held_under n) (place_at-set_other ps i j p differs)
       ])
 
-  other_number : (ps : List (Place T)) (q : Handle) (held : Held T) (n : ℕ) → held_at ps q ≡ Some held → n ≢ q.number → held_under n (place_at ps q.place) ≡ None
+  other_number : (ps : List (Place T)) (q : Handle) (held : Resident T) (n : ℕ) → held_at ps q ≡ Some held → n ≢ q.number → held_under n (place_at ps q.place) ≡ None
   other_number ps q held n found differs =
       let place = held_under-some q.number _ held found in
       rw place.0 (held_under-other n held (λ e. differs (sym e ∙ place.1)))
@@ -40,7 +40,7 @@ module _ {T : Type 0} where
       ])
 
   module _ (ps : List (Place T)) (free : Option ℕ) (puts : ℕ) (sound : IsSound ps free puts) where
-    module _ (q : Handle) (held : Held T) (found : held_at ps q ≡ Some held) where
+    module _ (q : Handle) (held : Resident T) (found : held_at ps q ≡ Some held) where
       inside : q.place < length ps
       inside = within ps q.number q.place held found
 
@@ -51,7 +51,7 @@ module _ {T : Type 0} where
       own = (held_under-some q.number _ held found).1
 
       -- what the handle's number finds once its place holds something else under it
-      numbered-refilled : (new : Held T) → new.number ≡ held.number → numbered 0 (set ps q.place (Filled new)) q.number ≡ Some (q, new.value)
+      numbered-refilled : (new : Resident T) → new.number ≡ held.number → numbered 0 (set ps q.place (Filled new)) q.number ≡ Some (q, new.value)
       numbered-refilled new same =
           let qs = set ps q.place (Filled new) in
           let here : held_under q.number (place_at qs q.place) ≡ Some new =
@@ -61,30 +61,30 @@ module _ {T : Type 0} where
           let handle : record { number = new.number; place = 0 + q.place } ≡ q = Handle-same _ q (zero-add q.place) (same ∙ own) in
           numbered-some 0 qs q.number q.place new here others ∙ ap (λ h. Some (h, new.value)) handle
 
-      refilled_other : (new : Held T) (n : ℕ) → new.number ≡ held.number → n ≢ q.number → numbered 0 (set ps q.place (Filled new)) n ≡ numbered 0 ps n
+      refilled_other : (new : Resident T) (n : ℕ) → new.number ≡ held.number → n ≢ q.number → numbered 0 (set ps q.place (Filled new)) n ≡ numbered 0 ps n
       refilled_other new n same differs =
           numbered-set_other ps q.place (Filled new) n inside (held_under-other n new (λ e. differs (sym e ∙ same ∙ own))) (other_number ps q held n found differs)
 
-      pub values-refilled : (new : Held T) → new.number ≡ held.number → values_below puts (set ps q.place (Filled new)) ≡ set_value (same_handle q) (values_below puts ps) new.value
+      pub values-refilled : (new : Resident T) → new.number ≡ held.number → values_below puts (set ps q.place (Filled new)) ≡ set_value (same_handle q) (values_below puts ps) new.value
       values-refilled new same =
           collected-with puts (numbered 0 ps) (numbered 0 (set ps q.place (Filled new))) q held.value new.value (FindsOwn-numbered ps) (numbered-held ps free puts sound q held found) (numbered-refilled new same) (λ n differs. refilled_other new n same differs) below
 
       -- the same value stays
-      pub values-kept : (new : Held T) → new.number ≡ held.number → new.value ≡ held.value → values_below puts (set ps q.place (Filled new)) ≡ values_below puts ps
+      pub values-kept : (new : Resident T) → new.number ≡ held.number → new.value ≡ held.value → values_below puts (set ps q.place (Filled new)) ≡ values_below puts ps
       values-kept new same value =
           collected-same puts (numbered 0 (set ps q.place (Filled new))) (numbered 0 ps) (λ n less. elim (cases_eq n q.number) [
             | inl at ↦ rw (at, numbered-refilled new same, numbered-held ps free puts sound q held found, value) refl
             | inr differs ↦ refilled_other new n same differs
           ])
 
-      fewer_refilled : (new : Held T) → new.number ≡ held.number → FewerNumbers ps (set ps q.place (Filled new))
+      fewer_refilled : (new : Resident T) → new.number ≡ held.number → FewerNumbers ps (set ps q.place (Filled new))
       fewer_refilled new same =
           FewerNumbers-set ps q.place (Filled new) inside (λ n there. elim (cases_eq n q.number) [
             | inl at ↦ rw at (ap is_some found)
             | inr differs ↦ absurd (let none = held_under-other n new (λ e. differs (sym e ∙ same ∙ own)) in true≢false (sym (rw none at there)))
           ])
 
-      pub IsSound-refilled : (new : Held T) → new.number ≡ held.number → IsSound (set ps q.place (Filled new)) free puts
+      pub IsSound-refilled : (new : Resident T) → new.number ≡ held.number → IsSound (set ps q.place (Filled new)) free puts
       IsSound-refilled new same =
           let qs = set ps q.place (Filled new) in
           let fewer = fewer_refilled new same in
@@ -156,7 +156,7 @@ module _ {T : Type 0} where
   free_has_none ps i next found n = ap (held_under n) (get_or_from_slice_get ps i _ (Free None) found)
 
   module _ (ps : List (Place T)) (i puts : ℕ) (next : Option ℕ) (value : T) (sound : IsSound ps (Some i) puts) (found : slice_get ps i ≡ Some (Free next)) where
-    abbrev pub put_there : Held T
+    abbrev pub put_there : Resident T
     put_there = record { value = value; number = puts; link = None }
 
     abbrev pub after_put : List (Place T)

@@ -6,7 +6,7 @@ use Rattle.slot_pool.specs.Pool.{Pool}
 use Rattle.slot_pool.specs.declared.handle.Handle.{Handle}
 use Rattle.slot_pool.specs.declared.chain.Chain.{Chain}
 use Rattle.slot_pool.specs.declared.chain.Link.{Link}
-use Rattle.slot_pool.specs.declared.place.Held.{Held}
+use Rattle.slot_pool.specs.declared.place.Resident.{Resident}
 use Rattle.slot_pool.specs.declared.place.Place.{Place}
 use Rattle.slot_pool.specs.declared.place.Place.TheVariants.{Free, Filled}
 
@@ -55,7 +55,7 @@ without_link chain link = record {
 
 module _ {T : Type 0} where
   -- what a place holds
-  abbrev pub filled : Place T → Option (Held T)
+  abbrev pub filled : Place T → Option (Resident T)
   filled (Free _) = None
   filled (Filled held) = Some held
 
@@ -65,7 +65,7 @@ module _ {T : Type 0} where
   refilled (Filled held) value = Filled (record held { value = value })
 
   -- what a place holds under this number of puts
-  abbrev pub held_under : ℕ → Place T → Option (Held T)
+  abbrev pub held_under : ℕ → Place T → Option (Resident T)
   held_under number (Free _) = None
   held_under number (Filled held) = if held.number == number then Some held else None
 
@@ -74,13 +74,13 @@ module _ {T : Type 0} where
   place_at places index = slice_index_or places index (Free None)
 
   -- what is held under a handle
-  abbrev pub held_at : List (Place T) → Handle → Option (Held T)
+  abbrev pub held_at : List (Place T) → Handle → Option (Resident T)
   held_at places handle = held_under handle.number (place_at places handle.place)
 
-  abbrev pub value_of : Option (Held T) → Option T
+  abbrev pub value_of : Option (Resident T) → Option T
   value_of held = option_map (λ h. h.value) held
 
-  abbrev pub link_in : Option (Held T) → Option Link
+  abbrev pub link_in : Option (Resident T) → Option Link
   link_in None = None
   link_in (Some held) = held.link
 
@@ -89,7 +89,7 @@ module _ {T : Type 0} where
   revalued places handle value = slice_set places handle.place (refilled (place_at places handle.place) value)
 
   -- the entry of what is held at an index, or else a later one
-  abbrev pub entry_or : ℕ → Option (Held T) → Option (Handle × T) → Option (Handle × T)
+  abbrev pub entry_or : ℕ → Option (Resident T) → Option (Handle × T) → Option (Handle × T)
   entry_or index None later = later
   entry_or index (Some held) later = Some (record { number = held.number; place = index }, held.value)
 
@@ -143,7 +143,7 @@ module _ {T : Type 0} where
     pub small : length places < 2 ^ 32
 
   -- the places with this link for what the handle names, if anything
-  abbrev pub relinked : List (Place T) → Handle → Option Link → Option (Held T) → List (Place T)
+  abbrev pub relinked : List (Place T) → Handle → Option Link → Option (Resident T) → List (Place T)
   relinked places handle link None = places
   relinked places handle link (Some held) = slice_set places handle.place (Filled (record held { link = link }))
 

@@ -10,19 +10,19 @@ use crate::handle::Handle;
 #[derive(Drop)]
 pub(crate) enum Place<T> {
     Free(Option<u32>),
-    Filled(Held<T>),
+    Filled(Resident<T>),
 }
 
 /// A value with the number of puts before its own, and its neighbours where it is in a chain.
 #[derive(Drop)]
-pub(crate) struct Held<T> {
+pub(crate) struct Resident<T> {
     pub(crate) value: T,
     pub(crate) number: u64,
     pub(crate) link: Option<Link>,
 }
 
 /// What lives under the handle.
-pub(crate) fn living<T>(places: &[Place<T>], handle: Handle) -> Option<&Held<T>>
+pub(crate) fn living<T>(places: &[Place<T>], handle: Handle) -> Option<&Resident<T>>
     ensures { option_copied result ≡ held_at places.now handle }
 {
     match places.get(handle.place as usize) {

@@ -8,7 +8,7 @@ ghost use Rattle.slot_pool.specs.Links.{IsChain, IsUnchained, KeepsOthers, is_ot
 use crate::chain::{Chain, Link};
 use crate::handle::Handle;
 use crate::place::{
-    Held, Place, add_places, lives, living, neighbours, set_link, set_next, set_previous,
+    Place, Resident, add_places, lives, living, neighbours, set_link, set_next, set_previous,
 };
 use std::alloc::{AllocError, Global};
 use std::marker::Model;
@@ -87,7 +87,7 @@ impl<T> Pool<T> {
             number: self.puts,
             place: index,
         };
-        let filled = Place::Filled(Held {
+        let filled = Place::Filled(Resident {
             value,
             number: self.puts,
             link: None,
@@ -124,7 +124,7 @@ impl<T> Pool<T> {
         match mem::replace(&mut self.places[handle.place as usize], freed) {
             Place::Filled(held) => {
                 self.free = Some(handle.place);
-                let Held {
+                let Resident {
                     value,
                     number: _,
                     link: _,

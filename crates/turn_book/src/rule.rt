@@ -50,9 +50,9 @@ impl<M: Entries> Play<Option<M>, Knows<M::Entry, M::Fixed>> for Leave<M> {
 }
 
 /// The first place stays, the others go to a new seat.
-pub(crate) struct Cut;
+pub(crate) struct SplitSeats;
 
-impl<E, F> Split<Knows<E, F>> for Cut {
+impl<E, F> Split<Knows<E, F>> for SplitSeats {
     ghost use Rattle.turn_book.specs.Plays.{one_place, other_places};
 
     ghost left = { one_place };
@@ -61,9 +61,9 @@ impl<E, F> Split<Knows<E, F>> for Cut {
 }
 
 /// One seat takes the places of another.
-pub(crate) struct Gather;
+pub(crate) struct JoinSeats;
 
-impl<E, F> Join<Knows<E, F>> for Gather {
+impl<E, F> Join<Knows<E, F>> for JoinSeats {
     ghost use Rattle.turn_book.specs.Plays.{joined, spent};
 
     ghost both = { joined };

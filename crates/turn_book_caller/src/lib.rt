@@ -12,5 +12,5 @@ mod log;
 mod tests;
 mod turns;
 
-pub use log::{Entry, Log};
+pub use log::{Log, LogEntry};
 pub use turns::{close_two, log_of_two, note, note_below, note_in_two};

@@ -2,18 +2,18 @@
 use turn_book::Entries;
 
 #[derive(Clone, Copy, Debug, PartialEq, Eq)]
-pub struct Entry {
+pub struct LogEntry {
     pub by: u32,
     pub value: u64,
 }
 
 #[derive(Drop)]
 pub struct Log {
-    pub entries: Vec<Entry>,
+    pub entries: Vec<LogEntry>,
 }
 
 impl Entries for Log {
-    type Entry = Entry;
+    type Entry = LogEntry;
 
     type Fixed = ();
 

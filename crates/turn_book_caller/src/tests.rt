@@ -1,12 +1,12 @@
 //! Two threads on one log.
-use crate::{Entry, Log, log_of_two};
+use crate::{Log, LogEntry, log_of_two};
 use std::test::Fail;
 use turn_book::{Book, Seat, SeatList};
 
 const TURNS: u64 = 1000;
 
 // Whether the values that a seat noted are 0, 1, 2 and so on up to `TURNS`.
-fn are_in_order(entries: &[Entry], seat: u32) -> bool {
+fn are_in_order(entries: &[LogEntry], seat: u32) -> bool {
     let mut next = 0;
     for entry in entries {
         if entry.by == seat {
@@ -50,7 +50,7 @@ fn a_list_takes_as_many_seats_as_it_was_made_with(rt: HostRuntime) -> Result<(),
 
 #[test]
 fn a_closed_book_gives_its_value_back(rt: HostRuntime) -> Result<(), Fail> {
-    let entries = [Entry { by: 7, value: 1 }].to_vec(rt.alloc())?;
+    let entries = [LogEntry { by: 7, value: 1 }].to_vec(rt.alloc())?;
     let Ok((book, seats)) = Book::new(rt.alloc(), Log { entries }, 1) else {
         panic!(rt; "there was no memory")
     };

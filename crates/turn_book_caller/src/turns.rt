@@ -5,7 +5,7 @@ ghost use denote.Param.Send.{IsSync};
 ghost use Rattle.turn_book.specs.Books.{IsSeatOf, seats_of, mine, seen};
 ghost use Rattle.turn_book_caller.specs.Logs.{entries_of, fixed_of, owner_of, entry, IsNoted};
 
-use crate::log::{Entry, Log};
+use crate::log::{Log, LogEntry};
 use std::alloc::{AllocError, Global};
 use std::sync::Wait;
 use std::thread::{Threads, join_mut};
@@ -28,7 +28,7 @@ pub fn note<R: Wait>(
 {
     let by = seat.number();
     let mut turn = book.turn(rt, seat);
-    let noted = turn.value().entries.push(Entry { by, value });
+    let noted = turn.value().entries.push(LogEntry { by, value });
     turn.done();
     if noted.is_ok() {
         Ok(())

@@ -9,7 +9,7 @@ ghost use Rattle.frame_ring.specs.Rings.{floor_of, passes_of, capacity_of, buffe
 use crate::buffer::Buffer;
 use crate::pass::{Gathered, RingPass, RingPasses};
 use crate::ring::FrameRing;
-use crate::rule::{Drain, Gather, Spare};
+use crate::rule::{Drain, JoinPasses, Spare};
 use std::sync::Wait;
 
 impl FrameRing {
@@ -67,8 +67,8 @@ impl FrameRing {
             free: last.free,
         };
         while let Some(other) = items.pop() {
-            self.ring.absorb::<Gather>(&mut all.ring, other.ring);
-            self.free.absorb::<Gather>(&mut all.free, other.free);
+            self.ring.absorb::<JoinPasses>(&mut all.ring, other.ring);
+            self.free.absorb::<JoinPasses>(&mut all.free, other.free);
         }
         all
     }

@@ -12,7 +12,7 @@ ghost use Rattle.frame_ring.specs.Rings.{floor_of, passes_of, capacity_of, buffe
 use crate::buffer::Buffer;
 use crate::pass::{RingPass, RingPasses};
 use crate::ring::FrameRing;
-use crate::rule::{Cut, Fill, FillLast, InRing, Mark, Spare, Unmark};
+use crate::rule::{Fill, FillLast, InRing, Mark, Spare, SplitPasses, Unmark};
 use crate::view::{FreeView, RingView};
 use crossbeam_queue::{Pass, RuledArrayQueue};
 use std::alloc::{AllocError, Global};
@@ -81,8 +81,8 @@ impl FrameRing {
     {
         let last = self.passes - 1;
         for number in 0..last {
-            let other_ring = self.ring.another::<Cut>(&mut ring);
-            let other_free = self.free.another::<Cut>(&mut free);
+            let other_ring = self.ring.another::<SplitPasses>(&mut ring);
+            let other_free = self.free.another::<SplitPasses>(&mut free);
             items.push_reserved(RingPass { ring, free, number });
             ring = other_ring;
             free = other_free;

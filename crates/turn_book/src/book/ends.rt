@@ -8,7 +8,7 @@ ghost use Rattle.turn_book.specs.Books.{opened, seats_of, seen, place_of, IsFres
 
 use crate::book::Book;
 use crate::entries::Entries;
-use crate::rule::{Cut, Gather};
+use crate::rule::{JoinSeats, SplitSeats};
 use crate::seat::{Seat, SeatList};
 use crate::view::Knows;
 use atomic_table::{Refused, Table};
@@ -63,7 +63,7 @@ impl<M: Entries> Book<M> {
         ensures limit { vec_capacity result ≡ seats }
     {
         for number in 0..seats - 1 {
-            let next = self.table.shared.split_seat::<Cut>(&mut rest);
+            let next = self.table.shared.split_seat::<SplitSeats>(&mut rest);
             items.push_reserved(Seat {
                 token: rest,
                 number,
@@ -108,7 +108,9 @@ impl<M: Entries> Book<M> {
     {
         let mut all = seats.pop().unwrap().token;
         while let Some(other) = seats.pop() {
-            self.table.shared.join_seat::<Gather>(&mut all, other.token);
+            self.table
+                .shared
+                .join_seat::<JoinSeats>(&mut all, other.token);
         }
         all
     }

@@ -9,7 +9,7 @@ pub returns-in_default-clause-value : goal.returns-in_default-clause-value
 returns-in_default-clause-value g c =
     let text = λ (w : Bor (List ℕ)). w.now in
     let past : length (map text c.args.words.now) ≤ c.loop.at = omega (arith, length-map c.args.words.now text, c.in_default.ensures.lookup.3) in
-    sym (turns-past c.loop.index c.loop.at c.args.ending.now g.T.Turn.turn c.loop.value (map text c.args.words.now) past) ∙ c.loop.invariant.same
+    sym (turns-past c.loop.index c.loop.at c.args.ending.now g.T.TurnReader.turn c.loop.value (map text c.args.words.now) past) ∙ c.loop.invariant.same
 
 pub returns-then-eq-clause-value : goal.returns-then-eq-clause-value
 returns-then-eq-clause-value g c =
@@ -17,7 +17,7 @@ returns-then-eq-clause-value g c =
     let words = c.args.words.now in
     let turn : c.loop.index < length (map text words) = omega (arith, length-map words text, c.loop-test.true) in
     let within : c.loop.at < length (map text words) = omega (arith, length-map words text, c.in-Some.ensures.lookup.3.0) in
-    turns-end c.loop.index c.loop.at c.args.ending.now g.T.Turn.turn c.loop.value (map text words) c.in-Some.word.now.now turn within
+    turns-end c.loop.index c.loop.at c.args.ending.now g.T.TurnReader.turn c.loop.value (map text words) c.in-Some.word.now.now turn within
     (get_or-map text words c.loop.at c.in-Some.word.now c.in-Some.word.now.now c.in-Some.ensures.lookup.3.0 ∙ ap text (sym c.in-Some.ensures.lookup.1)) (sym c.eq.ensures ∙ c.if-eq.true)
     ∙ c.loop.invariant.same
 
@@ -27,9 +27,9 @@ returns-in_default-take_turn-clause-value g c =
     let words = c.args.words.now in
     let turn : c.loop.index < length (map text words) = omega (arith, length-map words text, c.loop-test.true) in
     let within : c.loop.at < length (map text words) = omega (arith, length-map words text, c.in-Some.ensures.lookup.3.0) in
-    turns-none c.loop.index c.loop.at c.args.ending.now g.T.Turn.turn c.loop.value (map text words) c.in-Some.word.now.now turn within
+    turns-none c.loop.index c.loop.at c.args.ending.now g.T.TurnReader.turn c.loop.value (map text words) c.in-Some.word.now.now turn within
     (get_or-map text words c.loop.at c.in-Some.word.now c.in-Some.word.now.now c.in-Some.ensures.lookup.3.0 ∙ ap text (sym c.in-Some.ensures.lookup.1)) (sym c.eq.ensures ∙ c.if-eq.false)
-    (c.in_default-take_turn.ensures.value ∙ ap (g.T.Turn.turn c.loop.value) (map-rest text words c.loop.at))
+    (c.in_default-take_turn.ensures.value ∙ ap (g.T.TurnReader.turn c.loop.value) (map-rest text words c.loop.at))
     ∙ c.loop.invariant.same
 
 pub loop-preserved : goal.loop-preserved
@@ -43,9 +43,9 @@ loop-preserved g c =
     ap (drop taken) (map-rest text words c.loop.at) ∙ drop-drop taken c.loop.at (map text words) in
     record {
       few = omega (arith, c.in-Some-take_turn.ensures.few, length-take (length words - c.loop.at) (drop c.loop.at words), length-drop c.loop.at words);
-      same = ap (turns (drop (c.loop.index + 1) (map text words)) c.args.ending.now g.T.Turn.turn c.take_turn.new.self) (sym left)
-          ∙ turns-more c.loop.index c.loop.at c.args.ending.now g.T.Turn.turn c.loop.value c.take_turn.new.self (map text words) _ c.in-Some.word.now.now turn within
+      same = ap (turns (drop (c.loop.index + 1) (map text words)) c.args.ending.now g.T.TurnReader.turn c.take_turn.new.self) (sym left)
+          ∙ turns-more c.loop.index c.loop.at c.args.ending.now g.T.TurnReader.turn c.loop.value c.take_turn.new.self (map text words) _ c.in-Some.word.now.now turn within
           (get_or-map text words c.loop.at c.in-Some.word.now c.in-Some.word.now.now c.in-Some.ensures.lookup.3.0 ∙ ap text (sym c.in-Some.ensures.lookup.1)) (sym c.eq.ensures ∙ c.if-eq.false)
-          (c.in-Some-take_turn.ensures.value ∙ ap (g.T.Turn.turn c.loop.value) (map-rest text words c.loop.at))
+          (c.in-Some-take_turn.ensures.value ∙ ap (g.T.TurnReader.turn c.loop.value) (map-rest text words c.loop.at))
           ∙ c.loop.invariant.same;
     }

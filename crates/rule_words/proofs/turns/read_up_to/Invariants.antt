@@ -6,6 +6,6 @@ use Rattle.rule_words.proofs.turns.read_up_to.Given as goal
 abbrev pub invariant-loop : goal.invariant-loop
 invariant-loop g l = record {
   few : l.at ≤ length l.words;
-  same : turns (drop l.index (map (λ word. word.now) l.words)) l.ending g.T.Turn.turn l.value (drop l.at (map (λ word. word.now) l.words))
-      ≡ up_to l.ending g.T.Turn.turn l.initial.value (map (λ word. word.now) l.words);
+  same : turns (drop l.index (map (λ word. word.now) l.words)) l.ending g.T.TurnReader.turn l.value (drop l.at (map (λ word. word.now) l.words))
+      ≡ up_to l.ending g.T.TurnReader.turn l.initial.value (map (λ word. word.now) l.words);
 }

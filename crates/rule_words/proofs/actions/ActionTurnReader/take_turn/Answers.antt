@@ -2,7 +2,7 @@ use Rattle.std.proofs.Common.{◌≡◌, ℕ, ◌<◌, List, [], ◌∷◌, leng
 use Rattle.std.proofs.lemmas.List.{length-map}
 use Rattle.flow_actions.specs.declared.action.Action.{Action}
 use Rattle.rule_words.specs.Actions.{setting}
-use Rattle.rule_words.proofs.actions.ActionTurn.take_turn.Goals as goal
+use Rattle.rule_words.proofs.actions.ActionTurnReader.take_turn.Goals as goal
 
 -- a word without a value behind it
 setting-short : (a : Action) (words : List (List ℕ)) → length words < 2 → None ≡ setting a words

@@ -7,33 +7,33 @@ use std::sync::Arc;
 
 /// A value that several holders share, which contracts see as just that value.
 #[derive(Debug, Drop)]
-pub struct Held<T> {
+pub struct Shared<T> {
     value: Arc<T, Global>,
 }
 
-impl<T> Model for Held<T> {
+impl<T> Model for Shared<T> {
     ghost use Rattle.std.specs.Arc.{arc_value};
 
     ghost Value = { T };
 
-    ghost view = { λ held. arc_value held.value };
+    ghost view = { λ shared. arc_value shared.value };
 }
 
-impl<T: Drop> Clone for Held<T> {
-    ghost is_clone = { λ held copy. copy ≡ held };
+impl<T: Drop> Clone for Shared<T> {
+    ghost is_clone = { λ shared copy. copy ≡ shared };
 
-    fn clone(&self) -> Result<Held<T>, AllocError> {
+    fn clone(&self) -> Result<Shared<T>, AllocError> {
         let value = Arc::try_clone(&self.value)?;
-        Ok(Held { value })
+        Ok(Shared { value })
     }
 }
 
-impl<T: Drop> Held<T> {
-    pub fn new(alloc: Global, value: T) -> Result<Held<T>, AllocError>
-        ensures { IfOk result (λ held. held ≡ value) }
+impl<T: Drop> Shared<T> {
+    pub fn new(alloc: Global, value: T) -> Result<Shared<T>, AllocError>
+        ensures { IfOk result (λ shared. shared ≡ value) }
     {
         let value = Arc::new(alloc, value)?;
-        Ok(Held { value })
+        Ok(Shared { value })
     }
 
     /// The value.
