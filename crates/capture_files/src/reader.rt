@@ -148,6 +148,3 @@ fn next_frame<S: Source>(
     *progress = progress.behind(header.captured_len);
     Ok(header)
 }
-
-#[cfg(test)]
-mod tests;

@@ -189,28 +189,3 @@ impl<R: Files + Drop> Shelf for FileShelf<R> {
         self.written.write(piece)
     }
 }
-
-#[cfg(test)]
-mod tests {
-    use super::*;
-    use std::process;
-    use std::test::Fail;
-
-    #[test]
-    fn written_file_is_read_again(rt: HostRuntime) -> Result<(), Fail> {
-        let name = format!(in rt.alloc(); "/tmp/io_edges_{}", process::id(rt.process()))?;
-        let mut shelf = FileShelf::new(&rt);
-        shelf.open_write(name.as_str())?;
-        assert_eq!(rt; shelf.write(b"hello"), Ok(5));
-        shelf.open_read(Slot::Script, name.as_str())?;
-        fs::remove_file(&rt, name.as_str())?;
-        let mut buf = [0u8; 3];
-        assert_eq!(rt; shelf.read(Slot::Script, &mut buf), Ok(3));
-        assert_eq!(rt; buf, *b"hel");
-        assert_eq!(rt; shelf.read(Slot::Script, &mut buf), Ok(2));
-        assert_eq!(rt; buf, *b"lol");
-        assert_eq!(rt; shelf.read(Slot::Script, &mut buf), Ok(0));
-        assert_eq!(rt; shelf.open_read(Slot::Capture, name.as_str()), Err(Failed));
-        Ok(())
-    }
-}

@@ -1,7 +1,7 @@
 //! A slot or the written file of a shelf, lent as a source or as a sink.
-ghost use Rattle.std.specs.Prelude.{◌≡◌, ◌<◌, ℕ, List, [], length, Some, true};
+ghost use Rattle.std.specs.Prelude.{◌≡◌, ◌<◌, length, true};
 ghost use Rattle.io_edges.specs.ShelfState.{ShelfState, slot_of};
-ghost use Rattle.io_edges.specs.Lent.{KeepsSlot, KeepsWritten, all_bytes};
+ghost use Rattle.io_edges.specs.Lent.{KeepsSlot, KeepsWritten};
 ghost use Rattle.std.proofs.Common.{refl, ◌∙◌};
 ghost use Rattle.io_edges.specs.LentLaws.{KeepsSlot-none, KeepsSlot-more, KeepsWritten-none, KeepsWritten-more};
 
@@ -84,54 +84,4 @@ impl<S: Shelf> Sink for ShelfSink<'_, S> {
       q.0 ∙ p.0,
       KeepsWritten-more (S.state s.shelf.now) (S.state t.shelf.now) (S.state u.shelf.now) p.1 q.1,
     ) };
-}
-
-#[cfg(test)]
-mod tests {
-    use super::*;
-    use crate::mem_shelf::tests::small_shelf;
-    use std::test::Fail;
-
-    /// Behind a read by a loan the lender knows all but what was read.
-    fn read_script<S: Shelf>(shelf: &mut S, buf: &mut [u8]) -> Result<usize, Failed>
-        requires opened { (S.state shelf.old).script.opened ≡ true }
-        requires room { 0 < length buf.old }
-        ensures others { S.state shelf.new ≡ record (S.state shelf.old) { script = (S.state shelf.new).script } }
-        ensures opened { (S.state shelf.new).script.opened ≡ true }
-        ensures bytes { (bytes : List ℕ) → (S.state shelf.old).script.given ≡ Some [] → (S.state shelf.old).script.left ≡ Some bytes
-            → all_bytes (S.state shelf.new).script ≡ Some bytes }
-    {
-        let mut source = SlotSource::new(shelf, Slot::Script);
-        source.read(buf)
-    }
-
-    #[test]
-    fn slots_are_lent_in_turn(rt: HostRuntime) -> Result<(), Fail> {
-        let mut shelf = small_shelf(&rt, &[])?;
-        shelf.open_read(Slot::Script, "rules")?;
-        let mut buf = [0u8; 2];
-        assert_eq!(rt; read_script(&mut shelf, &mut buf), Ok(2));
-        assert_eq!(rt; buf, *b"fi");
-        shelf.open_read(Slot::Capture, "frames")?;
-        assert_eq!(rt;
-            SlotSource::new(&mut shelf, Slot::Capture).read(&mut buf),
-            Ok(2)
-        );
-        assert_eq!(rt; buf, *b"ra");
-        assert_eq!(rt; read_script(&mut shelf, &mut buf), Ok(1));
-        assert_eq!(rt; buf[0], b'r');
-        assert_eq!(rt; read_script(&mut shelf, &mut buf), Err(Failed));
-        Ok(())
-    }
-
-    #[test]
-    fn written_file_is_lent(rt: HostRuntime) -> Result<(), Fail> {
-        let mut shelf = small_shelf(&rt, &[])?;
-        shelf.open_write("out")?;
-        let mut sink = ShelfSink::new(&mut shelf);
-        assert_eq!(rt; sink.write(b"xy"), Ok(1));
-        assert_eq!(rt; sink.write(b"y"), Err(Failed));
-        assert_eq!(rt; shelf.written(), b"x".as_slice());
-        Ok(())
-    }
 }

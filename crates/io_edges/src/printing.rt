@@ -123,6 +123,3 @@ pub fn finish<K: Sink>(sink: &mut K, page: Page) -> Result<(), WriteFault>
     }
     Ok(())
 }
-
-#[cfg(test)]
-mod tests;

@@ -42,14 +42,3 @@ impl<R: Print + Drop> Sink for StdSink<R> {
 
     ghost keeps_more = { λ _ _ _ _ _. tt };
 }
-
-#[cfg(test)]
-mod tests {
-    use super::*;
-
-    #[test]
-    fn standard_output_takes_bytes(rt: HostRuntime) {
-        let mut sink = StdSink::new(&rt);
-        assert_eq!(rt; sink.write(b"taken\n"), Ok(6));
-    }
-}
