@@ -4,6 +4,7 @@ ghost use Rattle.flow_rules.specs.Valid.{IsValid};
 
 use flow_actions::Actions;
 use pattern_items::Test;
+use std::alloc::AllocError;
 use std::marker::Model;
 
 /// A rule that [`validate`](crate::validate) found right: its group and priority are in their ranges, each jump goes to
@@ -27,6 +28,22 @@ impl Model for Rule {
     ghost view = { view_of };
 
     ghost invariant = { IsValidInside };
+}
+
+impl Clone for Rule {
+    ghost is_clone = { λ rule copy. copy ≡ rule };
+
+    fn clone(&self) -> Result<Rule, AllocError> {
+        let test = self.test.clone()?;
+        let actions = self.actions.clone()?;
+        Ok(Rule {
+            id: self.id,
+            group: self.group,
+            priority: self.priority,
+            test,
+            actions,
+        })
+    }
 }
 
 impl Rule {
