@@ -6,9 +6,9 @@
 #![tactic(auto)]
 
 #[cfg(test)]
-mod edit_tests;
+mod changes;
 #[cfg(test)]
-mod frames;
+mod edit_tests;
 #[cfg(test)]
 mod header_tests;
 #[cfg(test)]

@@ -4,14 +4,14 @@ ghost use Rattle.std.specs.Prelude.{◌<◌};
 mod generated;
 mod plain;
 
-use crate::frames::{
-    DOUBLE_TAGGED_UDP_FRAME, IPV6_FRAME, RSS_CHECK_FRAME, RUNT_FRAME, TAGGED_UDP_FRAME, UDP_FRAME,
-    VXLAN_FRAME,
-};
 use arrayvec::ArrayVec;
 use packet_headers::{ItemKind, parse};
 use pattern_items::{Fields, Item, ItemFault, MAX_ITEMS, Pattern, Shape, Test, compile};
 use std::process::Abort;
+use test_frames::{
+    DOUBLE_TAGGED_UDP_FRAME, IPV6_FRAME, RSS_CHECK_FRAME, RUNT_FRAME, TAGGED_UDP_FRAME, UDP_FRAME,
+    VXLAN_FRAME,
+};
 
 const NONE: Fields = Fields { v: [0; 6] };
 
@@ -492,7 +492,7 @@ fn too_many_items_come_first(rt: HostRuntime) {
 }
 
 /// The kinds, in the order of the table below.
-const KINDS: [ItemKind; 8] = [
+static KINDS: [ItemKind; 8] = [
     ItemKind::Void,
     ItemKind::Eth,
     ItemKind::Vlan,
@@ -504,7 +504,7 @@ const KINDS: [ItemKind; 8] = [
 ];
 
 /// Whether an item of the column's kind may stand behind one of the row's kind: 1 where it may.
-const ALLOWED: [[u8; 8]; 8] = [
+static ALLOWED: [[u8; 8]; 8] = [
     [1, 1, 1, 1, 1, 1, 1, 1],
     [1, 0, 1, 1, 1, 0, 0, 0],
     [1, 0, 1, 1, 1, 0, 0, 0],
@@ -538,6 +538,13 @@ fn shape_of(rt: &impl Abort, name: &str, items: &[Item]) -> Option<Shape> {
     test_of(rt, name, &pattern_of(rt, items)).masked()
 }
 
+fn is_shape(shape: &Shape, kinds: &[ItemKind], masks: &[Fields], values: &[Fields]) -> bool {
+    if shape.kinds.as_slice() != kinds || shape.masks.as_slice() != masks {
+        return false;
+    }
+    shape.values.as_slice() == values
+}
+
 #[test]
 fn a_shape_has_masks_and_values(rt: HostRuntime) {
     use ItemKind::{Eth, Ipv4, Void};
@@ -549,15 +556,9 @@ fn a_shape_has_masks_and_values(rt: HostRuntime) {
     let Some(shape) = shape_of(&rt, "one value", &items) else {
         panic!(rt; "no range")
     };
-    assert_eq!(rt; shape.kinds.as_slice(), [Eth, Ipv4].as_slice());
-    assert_eq!(rt;
-        shape.masks.as_slice(),
-        [NONE, one(IPV4_SRC, 0xffff0000)].as_slice()
-    );
-    assert_eq!(rt;
-        shape.values.as_slice(),
-        [NONE, one(IPV4_SRC, 0x0a010000)].as_slice()
-    );
+    let masks = [NONE, one(IPV4_SRC, 0xffff0000)];
+    let values = [NONE, one(IPV4_SRC, 0x0a010000)];
+    assert!(rt; is_shape(&shape, &[Eth, Ipv4], &masks, &values));
 }
 
 #[test]

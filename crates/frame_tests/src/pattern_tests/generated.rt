@@ -3,10 +3,6 @@ ghost use Rattle.std.specs.Prelude.{◌<◌};
 
 use super::plain::{fault_of, is_match};
 use super::{ALLOWED, KINDS};
-use crate::frames::{
-    DOUBLE_TAGGED_UDP_FRAME, IPV6_FRAME, RSS_CHECK_FRAME, RUNT_FRAME, TAGGED_UDP_FRAME, UDP_FRAME,
-    VXLAN_FRAME,
-};
 use arrayvec::ArrayVec;
 use packet_headers::{ItemKind, Key, Layer, parse};
 use pattern_items::{Fields, Item, MAX_ITEMS, Pattern, compile};
@@ -15,6 +11,10 @@ use rand_pcg::Pcg32;
 use std::alloc::{AllocError, Global};
 use std::process::Abort;
 use std::test::Fail;
+use test_frames::{
+    DOUBLE_TAGGED_UDP_FRAME, IPV6_FRAME, RSS_CHECK_FRAME, RUNT_FRAME, TAGGED_UDP_FRAME, UDP_FRAME,
+    VXLAN_FRAME,
+};
 
 const ROUNDS: u32 = 20000;
 
