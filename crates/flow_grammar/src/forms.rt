@@ -123,6 +123,3 @@ fn number_32<'w, 'a>(words: &'w [&'a [u8]]) -> Option<(u32, &'w [&'a [u8]])>
     let (number, rest) = first_number(32, words)?;
     Some((number as u32, rest))
 }
-
-#[cfg(test)]
-mod tests;

@@ -50,8 +50,6 @@ mod op_list;
 mod part;
 mod program_fault;
 mod script;
-#[cfg(test)]
-mod shown;
 mod verbs;
 mod words;
 

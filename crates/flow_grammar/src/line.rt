@@ -52,6 +52,3 @@ fn read_words(alloc: Global, words: &[&[u8]]) -> Result<Line, AllocError>
         None => Ok(Line::Bad(BadKind::Arguments)),
     }
 }
-
-#[cfg(test)]
-mod tests;

@@ -44,6 +44,3 @@ pub fn program(alloc: Global, script: &[u8]) -> Result<Program, ProgramFault>
     let program = draft.finish(alloc, number)?;
     Ok(program)
 }
-
-#[cfg(test)]
-mod tests;

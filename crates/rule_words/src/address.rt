@@ -189,6 +189,3 @@ fn moved_up(value: u128, groups: usize) -> u128
     }
     moved
 }
-
-#[cfg(test)]
-mod tests;

@@ -1,5 +1,5 @@
 //! Lists of items in lines, and the patterns that they make.
-use crate::shown::{each_item_list_says, shown_items};
+use crate::shown::each_item_list_says;
 use std::test::Fail;
 
 static EACH_ITEM_ENDS_WITH_A_SLASH_AND_ALL_WITH_END: [(&[u8], &str); 24] = [
@@ -63,21 +63,6 @@ static ITEMS_BEHIND_THE_FIRST_16_ARE_COUNTED: [(&[u8], &str); 4] = [
 #[test]
 fn items_behind_the_first_16_are_counted(rt: HostRuntime) -> Result<(), Fail> {
     each_item_list_says(&rt, rt.alloc(), &ITEMS_BEHIND_THE_FIRST_16_ARE_COUNTED)
-}
-
-#[test]
-fn more_items_are_counted_up_to_65535(rt: HostRuntime) -> Result<(), Fail> {
-    let mut items = Vec::new(rt.alloc());
-    for _ in 0..65_600 {
-        items.extend_from_slice(b"void / ")?;
-    }
-    items.extend_from_slice(b"end")?;
-    let found = shown_items(rt.alloc(), &items)?;
-    assert_eq!(rt;
-        found.as_str(),
-        "create 0, void, void, void, void, void, void, void, void, void, void, void, void, void, void, void, void, 65535 more"
-    );
-    Ok(())
 }
 
 static EACH_FIELD_HAS_ITS_WORD: [(&[u8], &str); 27] = [

@@ -1,5 +1,5 @@
 //! Forms of lines, and what each asks for.
-use crate::shown::{each_says, shown};
+use crate::shown::each_says;
 use std::test::Fail;
 
 static ATTRIBUTES: [(&[u8], &str); 12] = [
@@ -179,20 +179,4 @@ static FORMS: [(&[u8], &str); 36] = [
 #[test]
 fn flow_lines_have_their_forms(rt: HostRuntime) -> Result<(), Fail> {
     each_says(&rt, rt.alloc(), &FORMS)
-}
-
-#[test]
-fn a_line_lists_up_to_64_ids(rt: HostRuntime) -> Result<(), Fail> {
-    let mut line = Vec::from_slice(rt.alloc(), b"flow destroy 0")?;
-    let mut want = String::new(rt.alloc());
-    for _ in 0..64 {
-        line.extend_from_slice(b" rule 9")?;
-        want.push_str("destroy 9;")?;
-    }
-    let found = shown(rt.alloc(), &line)?;
-    assert_eq!(rt; found.as_str(), want.as_str());
-    line.extend_from_slice(b" rule 9")?;
-    let found = shown(rt.alloc(), &line)?;
-    assert_eq!(rt; found.as_str(), "bad");
-    Ok(())
 }

@@ -1,7 +1,7 @@
 //! What lines and calls say, as short texts for the tests.
-use crate::line::{Line, read_line};
 use adapter::{BadKind, Op};
 use flow_actions::{Action, Actions};
+use flow_grammar::{Line, read_line};
 use flow_rules::{Attr, RuleSpec};
 use packet_headers::ItemKind;
 use pattern_items::{Fields, Item};
@@ -160,12 +160,41 @@ pub(crate) fn shown(alloc: Global, line: &[u8]) -> Result<String, AllocError> {
 }
 
 /// What a line says that creates a rule for queue 0 with these items.
-pub(crate) fn shown_items(alloc: Global, items: &[u8]) -> Result<String, AllocError> {
+fn shown_items(alloc: Global, items: &[u8]) -> Result<String, AllocError> {
     let mut line = Vec::new(alloc);
     line.extend_from_slice(b"flow create 0 ingress pattern ")?;
     line.extend_from_slice(items)?;
     line.extend_from_slice(b" actions queue index 0 / end")?;
     shown(alloc, &line)
+}
+
+fn push_times(bytes: &mut Vec<u8>, middle: &[u8], times: u32) -> Result<(), AllocError> {
+    for _ in 0..times {
+        bytes.extend_from_slice(middle)?;
+    }
+    Ok(())
+}
+
+/// A front, then a middle so many times, then a back.
+pub(crate) fn repeated(
+    alloc: Global,
+    front: &[u8],
+    middle: &[u8],
+    times: u32,
+    back: &[u8],
+) -> Result<Vec<u8>, AllocError> {
+    let mut bytes = Vec::from_slice(alloc, front)?;
+    push_times(&mut bytes, middle, times)?;
+    bytes.extend_from_slice(back)?;
+    Ok(bytes)
+}
+
+/// A row's text as a failure tells it.
+pub(crate) fn text_of(line: &[u8]) -> &str {
+    match str::from_utf8(line) {
+        Ok(text) => text,
+        Err(_) => "bytes that are no text",
+    }
 }
 
 /// Whether each line says what stands beside it.
@@ -176,7 +205,7 @@ pub(crate) fn each_says(
 ) -> Result<(), Fail> {
     for (line, want) in rows {
         let found = shown(alloc, line)?;
-        assert_eq!(rt; found.as_str(), *want, "at {line:?}");
+        assert_eq!(rt; found.as_str(), *want, "at {}", text_of(line));
     }
     Ok(())
 }
@@ -189,7 +218,7 @@ pub(crate) fn each_item_list_says(
 ) -> Result<(), Fail> {
     for (items, want) in rows {
         let found = shown_items(alloc, items)?;
-        assert_eq!(rt; found.as_str(), *want, "at {items:?}");
+        assert_eq!(rt; found.as_str(), *want, "at {}", text_of(items));
     }
     Ok(())
 }

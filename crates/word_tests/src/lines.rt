@@ -1,8 +1,5 @@
 //! Lines, and what each says.
-mod items;
-mod relations;
-
-use crate::shown::{each_says, shown};
+use crate::shown::{each_says, repeated, shown};
 use std::test::Fail;
 
 static EACH_LINE_SAYS_ONE_THING: [(&[u8], &str); 30] = [
@@ -311,16 +308,65 @@ fn a_queue_is_a_number_of_16_bits(rt: HostRuntime) -> Result<(), Fail> {
     each_says(&rt, rt.alloc(), &QUEUES)
 }
 
+/// What a row shows, the front, the middle and how often it stands, the back of a line, and what the line says.
+type Long = (
+    &'static str,
+    &'static [u8],
+    &'static [u8],
+    u32,
+    &'static [u8],
+    &'static str,
+);
+
+static LONG_LINES: [Long; 5] = [
+    (
+        "a line lists 64 ids",
+        b"flow destroy 0",
+        b" rule 9",
+        64,
+        b"",
+        "destroy 9;destroy 9;destroy 9;destroy 9;destroy 9;destroy 9;destroy 9;destroy 9;destroy 9;destroy 9;destroy 9;destroy 9;destroy 9;destroy 9;destroy 9;destroy 9;destroy 9;destroy 9;destroy 9;destroy 9;destroy 9;destroy 9;destroy 9;destroy 9;destroy 9;destroy 9;destroy 9;destroy 9;destroy 9;destroy 9;destroy 9;destroy 9;destroy 9;destroy 9;destroy 9;destroy 9;destroy 9;destroy 9;destroy 9;destroy 9;destroy 9;destroy 9;destroy 9;destroy 9;destroy 9;destroy 9;destroy 9;destroy 9;destroy 9;destroy 9;destroy 9;destroy 9;destroy 9;destroy 9;destroy 9;destroy 9;destroy 9;destroy 9;destroy 9;destroy 9;destroy 9;destroy 9;destroy 9;destroy 9;",
+    ),
+    (
+        "a line does not list 65 ids",
+        b"flow destroy 0",
+        b" rule 9",
+        65,
+        b"",
+        "bad",
+    ),
+    (
+        "more items are counted up to 65535",
+        b"flow create 0 ingress pattern ",
+        b"void / ",
+        65_600,
+        b"end actions queue index 0 / end",
+        "create 0, void, void, void, void, void, void, void, void, void, void, void, void, void, void, void, void, 65535 more",
+    ),
+    (
+        "one word may be as long as a script",
+        b"",
+        b"x",
+        1_048_575,
+        b"",
+        "bad",
+    ),
+    (
+        "one number may be as long as a script",
+        b"forward 0x",
+        b"0",
+        1_048_564,
+        b"7",
+        "start 7",
+    ),
+];
+
 #[test]
-fn one_word_may_be_as_long_as_a_script(rt: HostRuntime) -> Result<(), Fail> {
-    let word = vec![in rt.alloc(); b'x'; 1_048_575]?;
-    let found = shown(rt.alloc(), &word)?;
-    assert_eq!(rt; found.as_str(), "bad");
-    let mut line = Vec::new(rt.alloc());
-    line.extend_from_slice(b"forward 0x")?;
-    line.extend_from_slice(&vec![in rt.alloc(); b'0'; 1_048_564]?)?;
-    line.push(b'7')?;
-    let found = shown(rt.alloc(), &line)?;
-    assert_eq!(rt; found.as_str(), "start 7");
+fn long_lines_say_what_short_ones_do(rt: HostRuntime) -> Result<(), Fail> {
+    for (shows, front, middle, times, back, want) in &LONG_LINES {
+        let line = repeated(rt.alloc(), front, middle, *times, back)?;
+        let found = shown(rt.alloc(), &line)?;
+        assert_eq!(rt; found.as_str(), *want, "{shows}");
+    }
     Ok(())
 }

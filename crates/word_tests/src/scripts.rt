@@ -1,9 +1,8 @@
 //! Scripts, and the programs that they make.
-use super::*;
-use crate::part::Part;
-use crate::shown::show_op;
+use crate::shown::{repeated, show_op, text_of};
 use adapter::Call;
-use std::alloc::AllocError;
+use flow_grammar::{Part, ProgramFault, program};
+use std::alloc::{AllocError, Global};
 use std::fmt::Write;
 use std::process::Abort;
 use std::test::Fail;
@@ -65,7 +64,7 @@ fn shown(alloc: Global, script: &[u8]) -> Result<String, AllocError> {
 fn each_script_says(rt: &impl Abort, alloc: Global, rows: &[(&[u8], &str)]) -> Result<(), Fail> {
     for (script, want) in rows {
         let found = shown(alloc, script)?;
-        assert_eq!(rt; found.as_str(), *want, "at {script:?}");
+        assert_eq!(rt; found.as_str(), *want, "at {}", text_of(script));
     }
     Ok(())
 }
@@ -142,23 +141,6 @@ fn quit_ends_the_script_and_first_the_phase(rt: HostRuntime) -> Result<(), Fail>
     each_script_says(&rt, rt.alloc(), &QUIT_ENDS_THE_SCRIPT_AND_FIRST_THE_PHASE)
 }
 
-/// A script: this front, then a line so many times, then this back.
-fn repeated(
-    alloc: Global,
-    front: &[u8],
-    line: &[u8],
-    times: u32,
-    back: &[u8],
-) -> Result<Vec<u8>, AllocError> {
-    let mut script = Vec::new(alloc);
-    script.extend_from_slice(front)?;
-    for _ in 0..times {
-        script.extend_from_slice(line)?;
-    }
-    script.extend_from_slice(back)?;
-    Ok(script)
-}
-
 /// Whether a script is too large.
 fn is_too_large(alloc: Global, script: &[u8]) -> Result<bool, ProgramFault> {
     match program(alloc, script) {
@@ -168,40 +150,132 @@ fn is_too_large(alloc: Global, script: &[u8]) -> Result<bool, ProgramFault> {
     }
 }
 
-#[test]
-fn a_script_has_at_most_65536_lines(rt: HostRuntime) -> Result<(), Fail> {
-    let rows: [(&[u8], u32, &[u8], bool); 8] = [
-        (b"", 65_536, b"", false),
-        (b"", 65_537, b"", true),
-        (b"", 65_535, b"#", false),
-        (b"", 65_536, b"#", true),
-        (b"", 65_536, b"\r", true),
-        (b"", 65_536, b" ", true),
-        (b"quit\n", 65_535, b"", false),
-        (b"quit\n", 65_536, b"", true),
-    ];
-    for (front, times, back, want) in rows {
-        let script = repeated(rt.alloc(), front, b"\n", times, back)?;
-        assert_eq!(rt; is_too_large(rt.alloc(), &script)?, want, "at {times}");
-    }
-    Ok(())
-}
+/// What a row shows, the front, the middle and how often it stands, the back of a script, and whether it is too large.
+type Large = (
+    &'static str,
+    &'static [u8],
+    &'static [u8],
+    u32,
+    &'static [u8],
+    bool,
+);
+
+static LARGE_SCRIPTS: [Large; 16] = [
+    ("65,536 empty lines", b"", b"\n", 65_536, b"", false),
+    ("65,537 empty lines", b"", b"\n", 65_537, b"", true),
+    (
+        "65,535 empty lines and a comment",
+        b"",
+        b"\n",
+        65_535,
+        b"#",
+        false,
+    ),
+    (
+        "65,536 empty lines and a comment",
+        b"",
+        b"\n",
+        65_536,
+        b"#",
+        true,
+    ),
+    (
+        "65,536 empty lines and a CR",
+        b"",
+        b"\n",
+        65_536,
+        b"\r",
+        true,
+    ),
+    (
+        "65,536 empty lines and a space",
+        b"",
+        b"\n",
+        65_536,
+        b" ",
+        true,
+    ),
+    (
+        "65,535 lines behind quit",
+        b"quit\n",
+        b"\n",
+        65_535,
+        b"",
+        false,
+    ),
+    (
+        "65,536 lines behind quit",
+        b"quit\n",
+        b"\n",
+        65_536,
+        b"",
+        true,
+    ),
+    ("65,536 bad calls", b"", b"x\n", 65_536, b"", false),
+    (
+        "65,534 bad calls in a phase without stop",
+        b"start\n",
+        b"x\n",
+        65_534,
+        b"",
+        false,
+    ),
+    (
+        "65,534 bad calls in a phase with stop",
+        b"start\n",
+        b"x\n",
+        65_534,
+        b"stop\n",
+        false,
+    ),
+    (
+        "65,535 bad calls in a phase without stop",
+        b"start\n",
+        b"x\n",
+        65_535,
+        b"",
+        true,
+    ),
+    (
+        "65,535 bad calls before a start",
+        b"",
+        b"x\n",
+        65_535,
+        b"start\n",
+        true,
+    ),
+    (
+        "65,533 bad calls in a phase, and quit",
+        b"start\n",
+        b"x\n",
+        65_533,
+        b"quit\n",
+        false,
+    ),
+    (
+        "65,534 bad calls in a phase, and quit",
+        b"start\n",
+        b"x\n",
+        65_534,
+        b"quit\n",
+        true,
+    ),
+    (
+        "65,535 bad lines behind quit",
+        b"quit\n",
+        b"x\n",
+        65_535,
+        b"",
+        false,
+    ),
+];
 
 #[test]
-fn a_script_has_at_most_65536_calls(rt: HostRuntime) -> Result<(), Fail> {
-    let rows: [(&[u8], u32, &[u8], bool); 8] = [
-        (b"", 65_536, b"", false),
-        (b"start\n", 65_534, b"", false),
-        (b"start\n", 65_534, b"stop\n", false),
-        (b"start\n", 65_535, b"", true),
-        (b"", 65_535, b"start\n", true),
-        (b"start\n", 65_533, b"quit\n", false),
-        (b"start\n", 65_534, b"quit\n", true),
-        (b"quit\n", 65_535, b"", false),
-    ];
-    for (front, times, back, want) in rows {
-        let script = repeated(rt.alloc(), front, b"x\n", times, back)?;
-        assert_eq!(rt; is_too_large(rt.alloc(), &script)?, want, "at {times}");
+fn a_script_has_at_most_65536_lines_and_calls(rt: HostRuntime) -> Result<(), Fail> {
+    for (shows, front, middle, times, back, want) in &LARGE_SCRIPTS {
+        let script = repeated(rt.alloc(), front, middle, *times, back)?;
+        let found = is_too_large(rt.alloc(), &script)?;
+        assert_eq!(rt; found, *want, "{shows}");
     }
     Ok(())
 }
