@@ -236,6 +236,3 @@ fn plain_of(head: &Head, key: &Key) -> Option<Plain>
         eth_offset: stack.eth.offset,
     })
 }
-
-#[cfg(test)]
-mod tests;

@@ -1,20 +1,21 @@
-//! Generated frames of all kinds of headers, with verdicts of all kinds, through what is kept of them and back.
-
-use super::{keep_frame, show};
-use crate::caller::Caller;
-use crate::entry::EntryView;
-use crate::parcel::Parcel;
+//! Generated frames of all kinds of headers, on ways of all lengths, through an adapter's history and back.
+use adapter::{Adapter, At, Call, Caller, EntryView, Shared, Op, Parcel};
 use arrayvec::ArrayVec;
-use flow_actions::{Fate, MAX_PATH, Verdict};
+use flow_actions::{Action, Actions, Fate, Verdict};
+use flow_rules::{Attr, Limits, RuleSpec};
 use packet_headers::{
     Eth, Ipv4, Ipv6, Ipv6Address, Key, Network, Stack, Tag, Tags, Tcp, Transport, Tunnel, Udp,
     Vxlan,
 };
+use pattern_items::Pattern;
+use std::alloc::{AllocError, Global};
 use std::process::Abort;
-use std::test::Fail;
 
-/// Kinds of tags, network and transport headers, of keys, and of verdicts by fate, mark and hash; ways of 0 to 16 rules.
-const ROUNDS: u32 = 3 * 3 * 3 * 4 * 2 * 2 * 2 * 17;
+/// Kinds of tags, network and transport headers, and of keys.
+const KEYS: u32 = 3 * 3 * 3 * 4;
+
+/// Ways of 0 to 16 rules, each to a queue and to nowhere.
+const WAYS: u32 = 17 * 2;
 
 /// A number of the frame of a seed.
 fn word(seed: u32, place: u32) -> u32 {
@@ -153,36 +154,75 @@ fn key(seed: u32) -> Key {
     }
 }
 
-fn number(seed: u32, place: u32, is_there: bool) -> Option<u32> {
-    match is_there {
-        true => Some(word(seed, place)),
-        false => None,
-    }
-}
-
-fn fate(seed: u32) -> Fate {
-    match seed / 432 % 2 {
+/// Where a way ends: nowhere, or in a queue of its own.
+fn fate_of(way: u32) -> Fate {
+    match way % 2 {
         0 => Fate::Drop,
-        _ => Fate::Queue(byte(seed, 34) % 16),
+        _ => Fate::Queue((way / 2 % 16) as u8),
     }
 }
 
-/// The ids of as many rules.
-fn path(seed: u32, len: u32) -> ArrayVec<u32, MAX_PATH> {
-    let mut path = ArrayVec::new();
-    for place in 0..len {
-        let _full = path.try_push(word(seed, place));
+/// What the rule of a group does: the frame goes on, or it is the last of the way.
+fn action_of(way: u32, group: u32) -> Action {
+    if group.saturating_add(1) < way / 2 {
+        return Action::Jump(group.saturating_add(1));
     }
-    path
+    match fate_of(way) {
+        Fate::Drop => Action::Drop,
+        Fate::Queue(queue) => Action::Queue(queue as u16),
+    }
 }
 
-fn verdict(seed: u32) -> Verdict {
-    Verdict {
-        fate: fate(seed),
-        mark: number(seed, 35, seed / 108 % 2 == 0),
-        hash: number(seed, 36, seed / 216 % 2 == 0),
-        path: path(seed, seed / 864 % 17),
+/// The rule of a group, which takes each frame.
+fn rule_of(way: u32, group: u32) -> RuleSpec {
+    let mut list = ArrayVec::new();
+    list.push(action_of(way, group));
+    RuleSpec {
+        attr: Attr {
+            group,
+            priority: 0,
+            ingress: true,
+            egress: false,
+            transfer: false,
+        },
+        pattern: Pattern {
+            items: ArrayVec::new(),
+            more: 0,
+        },
+        actions: Actions { list, more: 0 },
     }
+}
+
+const fn call(op: Op) -> Call {
+    Call {
+        at: At { line: 1, part: 1 },
+        op,
+    }
+}
+
+/// An adapter with the rules of a way. Where it has none, a frame is dropped in isolated mode alone.
+fn adapter_of(alloc: Global, way: u32) -> Result<Adapter, AllocError> {
+    let limits = Limits {
+        rxq: 16,
+        flow_max: 4096,
+    };
+    let mut adapter = Adapter::new(alloc, limits)?;
+    adapter.step(Caller::SHELL, &call(Op::Isolate(way % 2 == 0)))?;
+    for group in 0..way / 2 {
+        let rule = Shared::new(alloc, rule_of(way, group))?;
+        adapter.step(Caller::SHELL, &call(Op::Create(rule)))?;
+    }
+    Ok(adapter)
+}
+
+/// A verdict tells the rules of a way and its end.
+fn tells_way(rt: &impl Abort, verdict: &Verdict, way: u32) {
+    assert_eq!(rt; verdict.fate, fate_of(way), "fate of way {way}");
+    assert_eq!(rt;
+        verdict.path.len(),
+        (way / 2) as usize,
+        "rules of way {way}"
+    );
 }
 
 /// Two keys have the same layers at the same offsets.
@@ -222,20 +262,30 @@ fn is_shown(rt: &impl Abort, entry: &EntryView<'_>, parcel: &Parcel, verdict: &V
     *caller == Caller(24)
 }
 
+/// Lets a frame pass, and compares it with what is shown of it.
+fn passes(rt: &impl Abort, adapter: &mut Adapter, seed: u32) -> Result<(), AllocError> {
+    let parcel = Parcel {
+        number: seed,
+        key: key(seed),
+        len: word(seed, 37),
+    };
+    let verdict = adapter.verdict(&parcel.key);
+    tells_way(rt, &verdict, seed / KEYS);
+    let place = adapter.entries();
+    adapter.packet(Caller(24), &parcel, &verdict)?;
+    assert!(rt; place < adapter.entries());
+    let is_same = is_shown(rt, &adapter.entry(place), &parcel, &verdict);
+    assert!(rt; is_same, "frame {seed}");
+    Ok(())
+}
+
 #[test]
-fn frames_of_all_kinds_are_shown_as_they_passed(rt: HostRuntime) -> Result<(), Fail> {
-    for seed in 0..ROUNDS {
-        let parcel = Parcel {
-            number: seed,
-            key: key(seed),
-            len: word(seed, 37),
-        };
-        let verdict = verdict(seed);
-        let kept = keep_frame(rt.alloc(), Caller(24), &parcel, &verdict)?;
-        assert!(rt;
-            is_shown(&rt, &show(&kept), &parcel, &verdict),
-            "frame {seed}"
-        );
+fn frames_of_all_kinds_are_shown_as_they_passed(rt: HostRuntime) -> Result<(), AllocError> {
+    for way in 0..WAYS {
+        let mut adapter = adapter_of(rt.alloc(), way)?;
+        for kind in 0..KEYS {
+            passes(&rt, &mut adapter, way * KEYS + kind)?;
+        }
     }
     Ok(())
 }
