@@ -131,6 +131,3 @@ fn status_of(ending: Ending) -> Status
         Ending::ReadFault => Status::ReadFault,
     }
 }
-
-#[cfg(test)]
-mod tests;
