@@ -1,25 +1,42 @@
 -- The kind of an action, and which kinds say where a frame goes.
 use Rattle.std.specs.Prelude.{Bool, true, false}
+use Rattle.packet_headers.specs.declared.edits.Edit.{Edit}
+use Rattle.packet_headers.specs.declared.edits.Edit.TheVariants as edits
 use Rattle.flow_actions.specs.declared.action.Action.{Action}
 use Rattle.flow_actions.specs.declared.action.Action.TheVariants as actions
 use Rattle.flow_actions.specs.declared.action.ActionKind.{ActionKind}
 use Rattle.flow_actions.specs.declared.action.ActionKind.TheVariants as kinds
 
+abbrev pub kind_of_edit : Edit → ActionKind
+kind_of_edit (edits.MacSrc n) = kinds.MacSrc
+kind_of_edit (edits.MacDst n) = kinds.MacDst
+kind_of_edit (edits.Ipv4Src n) = kinds.Ipv4Src
+kind_of_edit (edits.Ipv4Dst n) = kinds.Ipv4Dst
+kind_of_edit (edits.Ipv6Src n) = kinds.Ipv6Src
+kind_of_edit (edits.Ipv6Dst n) = kinds.Ipv6Dst
+kind_of_edit (edits.PortSrc n) = kinds.PortSrc
+kind_of_edit (edits.PortDst n) = kinds.PortDst
+kind_of_edit edits.DecTtl = kinds.DecTtl
+kind_of_edit (edits.SetTtl n) = kinds.SetTtl
+kind_of_edit (edits.SetVid n) = kinds.SetVid
+
 abbrev pub kind_of : Action → ActionKind
 kind_of actions.Void = kinds.Void
 kind_of (actions.Queue queue) = kinds.Queue
+kind_of (actions.Rss rss) = kinds.Rss
 kind_of actions.Drop = kinds.Drop
 kind_of (actions.Jump group) = kinds.Jump
+kind_of (actions.Mark mark) = kinds.Mark
+kind_of (actions.Set edit) = kind_of_edit edit
 
 abbrev pub is_fate : ActionKind → Bool
-is_fate kinds.Void = false
 is_fate kinds.Queue = true
+is_fate kinds.Rss = true
 is_fate kinds.Drop = true
 is_fate kinds.Jump = true
+is_fate _ = false
 
 -- the action does nothing
 abbrev pub is_void : Action → Bool
 is_void actions.Void = true
-is_void (actions.Queue queue) = false
-is_void actions.Drop = false
-is_void (actions.Jump group) = false
+is_void _ = false

@@ -1,8 +1,10 @@
 //! Actions and their kinds.
 ghost use Rattle.std.specs.Prelude.{◌≡◌};
-ghost use Rattle.flow_actions.specs.Kinds.{kind_of, is_fate, is_void};
+ghost use Rattle.flow_actions.specs.Kinds.{kind_of, kind_of_edit, is_fate, is_void};
 
+use crate::rss::Rss;
 use arrayvec::ArrayVec;
+use packet_headers::Edit;
 use std::alloc::AllocError;
 
 /// The kinds of action (rte_flow guide: actions).
@@ -13,10 +15,36 @@ pub enum ActionKind {
     Void,
     /// Delivers the frame to an Rx queue.
     Queue,
+    /// Delivers the frame to an Rx queue that a hash of its addresses and ports chooses.
+    Rss,
     /// Drops the frame.
     Drop,
     /// Goes on with the rules of another group.
     Jump,
+    /// Marks the frame with a number.
+    Mark,
+    /// Sets the source address of Ethernet.
+    MacSrc,
+    /// Sets the destination address of Ethernet.
+    MacDst,
+    /// Sets the source address of IPv4.
+    Ipv4Src,
+    /// Sets the destination address of IPv4.
+    Ipv4Dst,
+    /// Sets the source address of IPv6.
+    Ipv6Src,
+    /// Sets the destination address of IPv6.
+    Ipv6Dst,
+    /// Sets the source port of TCP or UDP.
+    PortSrc,
+    /// Sets the destination port of TCP or UDP.
+    PortDst,
+    /// Lowers the TTL of IPv4 or the hop limit of IPv6 by 1.
+    DecTtl,
+    /// Sets the TTL of IPv4 or the hop limit of IPv6.
+    SetTtl,
+    /// Sets the VLAN id of a tag.
+    SetVid,
 }
 
 impl ActionKind {
@@ -25,24 +53,40 @@ impl ActionKind {
         ensures { result ≡ is_fate self }
     {
         match self {
-            ActionKind::Void => false,
-            ActionKind::Queue => true,
-            ActionKind::Drop => true,
-            ActionKind::Jump => true,
+            ActionKind::Queue | ActionKind::Rss | ActionKind::Drop | ActionKind::Jump => true,
+            ActionKind::Void
+            | ActionKind::Mark
+            | ActionKind::MacSrc
+            | ActionKind::MacDst
+            | ActionKind::Ipv4Src
+            | ActionKind::Ipv4Dst
+            | ActionKind::Ipv6Src
+            | ActionKind::Ipv6Dst
+            | ActionKind::PortSrc
+            | ActionKind::PortDst
+            | ActionKind::DecTtl
+            | ActionKind::SetTtl
+            | ActionKind::SetVid => false,
         }
     }
 }
 
 /// An action with its value.
-#[derive(Clone, Copy, PartialEq, Eq, Debug, Default)]
+#[derive(PartialEq, Eq, Debug, Default, Drop)]
 pub enum Action {
     #[default]
     Void,
     /// The Rx queue.
     Queue(u16),
+    /// The Rx queues, and what is hashed.
+    Rss(Rss),
     Drop,
     /// The group whose rules come next.
     Jump(u32),
+    /// The mark.
+    Mark(u32),
+    /// The edit of a header.
+    Set(Edit),
 }
 
 impl Action {
@@ -53,8 +97,11 @@ impl Action {
         match self {
             Action::Void => true,
             Action::Queue(_) => false,
+            Action::Rss(_) => false,
             Action::Drop => false,
             Action::Jump(_) => false,
+            Action::Mark(_) => false,
+            Action::Set(_) => false,
         }
     }
 
@@ -65,9 +112,54 @@ impl Action {
         match self {
             Action::Void => ActionKind::Void,
             Action::Queue(_) => ActionKind::Queue,
+            Action::Rss(_) => ActionKind::Rss,
             Action::Drop => ActionKind::Drop,
             Action::Jump(_) => ActionKind::Jump,
+            Action::Mark(_) => ActionKind::Mark,
+            Action::Set(edit) => kind_of_edit(*edit),
         }
+    }
+
+    /// The same action.
+    pub fn copied(&self) -> Action
+        ensures { result ≡ self.now }
+    {
+        match self {
+            Action::Void => Action::Void,
+            Action::Queue(queue) => Action::Queue(*queue),
+            Action::Rss(rss) => Action::Rss(rss.copied()),
+            Action::Drop => Action::Drop,
+            Action::Jump(group) => Action::Jump(*group),
+            Action::Mark(mark) => Action::Mark(*mark),
+            Action::Set(edit) => Action::Set(*edit),
+        }
+    }
+}
+
+impl Clone for Action {
+    ghost is_clone = { λ action copy. copy ≡ action };
+
+    fn clone(&self) -> Result<Action, AllocError> {
+        Ok(self.copied())
+    }
+}
+
+/// The kind of an edit's action.
+fn kind_of_edit(edit: Edit) -> ActionKind
+    ensures { result ≡ kind_of_edit edit }
+{
+    match edit {
+        Edit::MacSrc(_) => ActionKind::MacSrc,
+        Edit::MacDst(_) => ActionKind::MacDst,
+        Edit::Ipv4Src(_) => ActionKind::Ipv4Src,
+        Edit::Ipv4Dst(_) => ActionKind::Ipv4Dst,
+        Edit::Ipv6Src(_) => ActionKind::Ipv6Src,
+        Edit::Ipv6Dst(_) => ActionKind::Ipv6Dst,
+        Edit::PortSrc(_) => ActionKind::PortSrc,
+        Edit::PortDst(_) => ActionKind::PortDst,
+        Edit::DecTtl => ActionKind::DecTtl,
+        Edit::SetTtl(_) => ActionKind::SetTtl,
+        Edit::SetVid(_) => ActionKind::SetVid,
     }
 }
 

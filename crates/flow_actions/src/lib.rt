@@ -22,7 +22,9 @@
 #![tactic(auto)]
 
 mod action;
+mod rss;
 mod verdict;
 
 pub use action::{Action, ActionKind, Actions, MAX_ACTIONS};
+pub use rss::{ALL_RSS_TYPES, MAX_RSS_QUEUES, Rss};
 pub use verdict::{Fate, MAX_PATH, Verdict};

@@ -28,6 +28,9 @@ performed-below rxq flows rule walked actions.Void there below = below
 performed-below rxq flows rule walked (actions.Queue queue) there below = there
 performed-below rxq flows rule walked actions.Drop there below = tt
 performed-below rxq flows rule walked (actions.Jump to) there below = tt
+performed-below rxq flows rule walked (actions.Rss rss) there below = below
+performed-below rxq flows rule walked (actions.Mark mark) there below = below
+performed-below rxq flows rule walked (actions.Set edit) there below = below
 
 visited-below : (rxq : ℕ) → 1 ≤ rxq → (flows : Flows) (walked : Walked) (rule : Option RuleView) → HoldsOf (IsFor rxq) rule → IsEndBelow rxq (visited flows walked rule).next
 visited-below rxq one flows walked None holds = missed-below rxq one flows.isolated

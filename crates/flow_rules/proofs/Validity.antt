@@ -35,6 +35,9 @@ good rxq group actions.Drop most fine = tt
 good rxq group (actions.Jump to) most fine =
     let parts = or_parts (nat_lt 15 to) (nat_le to group) fine in
     (leb-false to group parts.1, ltb-false 15 to parts.0)
+good rxq group (actions.Rss rss) most fine = tt
+good rxq group (actions.Mark mark) most fine = tt
+good rxq group (actions.Set edit) most fine = tt
 
 -- the parts of the faults behind the first action
 record Clear (rxq : ℕ) (known : Kinds) (group place : ℕ) (fated : Bool) (action : Action) (list : List Action) : Type 0 where
@@ -98,6 +101,9 @@ on_port rxq group actions.Void fine = tt
 on_port rxq group (actions.Queue queue) fine = leb-false rxq queue fine
 on_port rxq group actions.Drop fine = tt
 on_port rxq group (actions.Jump to) fine = tt
+on_port rxq group (actions.Rss rss) fine = tt
+on_port rxq group (actions.Mark mark) fine = tt
+on_port rxq group (actions.Set edit) fine = tt
 
 all_on_port : (rxq : ℕ) (known : Kinds) (group place : ℕ) (fated : Bool) (list : List Action)
     → first (action_faults rxq known group place fated list) ≡ None → All (IsOnPort rxq) list

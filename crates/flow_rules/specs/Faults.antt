@@ -44,6 +44,9 @@ is_bad rxq group actions.Void = false
 is_bad rxq group (actions.Queue queue) = nat_le rxq queue
 is_bad rxq group actions.Drop = false
 is_bad rxq group (actions.Jump to) = nat_lt 15 to || nat_le to group
+is_bad rxq group (actions.Rss rss) = false
+is_bad rxq group (actions.Mark mark) = false
+is_bad rxq group (actions.Set edit) = false
 
 -- what is known of the actions that rules share: the kind of the one of an id, if one is in effect
 abbrev pub Kinds : Type 0

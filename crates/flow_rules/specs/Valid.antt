@@ -13,6 +13,9 @@ IsGood group actions.Void = Unit {0}
 IsGood group (actions.Queue queue) = queue < 256
 IsGood group actions.Drop = Unit {0}
 IsGood group (actions.Jump to) = (group < to) × (to ≤ 15)
+IsGood group (actions.Rss rss) = Unit {0}
+IsGood group (actions.Mark mark) = Unit {0}
+IsGood group (actions.Set edit) = Unit {0}
 
 abbrev pub has_fate : Action → Bool
 has_fate action = is_fate (kind_of action)
@@ -39,3 +42,6 @@ IsOnPort rxq actions.Void = Unit {0}
 IsOnPort rxq (actions.Queue queue) = queue < rxq
 IsOnPort rxq actions.Drop = Unit {0}
 IsOnPort rxq (actions.Jump to) = Unit {0}
+IsOnPort rxq (actions.Rss rss) = Unit {0}
+IsOnPort rxq (actions.Mark mark) = Unit {0}
+IsOnPort rxq (actions.Set edit) = Unit {0}

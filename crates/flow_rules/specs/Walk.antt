@@ -40,6 +40,9 @@ performed flows rule walked actions.Void = walked
 performed flows rule walked (actions.Queue queue) = record walked { next = courses.End (fates.Queue queue) }
 performed flows rule walked actions.Drop = record walked { next = courses.End fates.Drop }
 performed flows rule walked (actions.Jump group) = record walked { next = courses.Group group }
+performed flows rule walked (actions.Rss rss) = walked
+performed flows rule walked (actions.Mark mark) = walked
+performed flows rule walked (actions.Set edit) = walked
 
 -- a frame that no rule of a group takes goes to queue 0, or is dropped in isolated mode
 abbrev pub missed : Bool → Fate

@@ -109,6 +109,9 @@ fn has_bad_value(rxq: u8, group: u32, action: &Action) -> bool
         Action::Queue(queue) => *queue >= rxq as u16,
         Action::Drop => false,
         Action::Jump(to) => *to > MAX_GROUP || *to <= group,
+        Action::Rss(_) => false,
+        Action::Mark(_) => false,
+        Action::Set(_) => false,
     }
 }
 
@@ -143,7 +146,7 @@ fn copy_of(list: &ArrayVec<Action, MAX_ACTIONS>) -> ArrayVec<Action, MAX_ACTIONS
 {
     let mut copy = ArrayVec::new();
     for action in list.as_slice() {
-        copy.push(*action);
+        copy.push(action.copied());
     }
     copy
 }

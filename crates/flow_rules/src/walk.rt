@@ -119,6 +119,9 @@ fn perform<F: FlowsInEffect>(flows: &F, rule: &Rule, key: &Key, way: &mut Way)
             Action::Queue(queue) => way.next = Course::End(Fate::Queue(*queue as u8)),
             Action::Drop => way.next = Course::End(Fate::Drop),
             Action::Jump(to) => way.next = Course::Group(*to),
+            Action::Rss(_) => {}
+            Action::Mark(_) => {}
+            Action::Set(_) => {}
         }
     }
 }
