@@ -1,0 +1,3 @@
+pub mod Choice
+pub mod Inputs
+pub mod Windows

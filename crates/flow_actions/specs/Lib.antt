@@ -1,1 +1,4 @@
+pub mod Halves
+pub mod Hash
 pub mod Kinds
+pub mod Spread

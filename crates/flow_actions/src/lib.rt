@@ -22,9 +22,14 @@
 #![tactic(auto)]
 
 mod action;
+mod halves;
+mod hash;
 mod rss;
+mod spread;
 mod verdict;
 
 pub use action::{Action, ActionKind, Actions, MAX_ACTIONS};
+pub use hash::toeplitz;
 pub use rss::{ALL_RSS_TYPES, MAX_RSS_QUEUES, Rss};
+pub use spread::rss_queue;
 pub use verdict::{Fate, MAX_PATH, Verdict};
