@@ -23,8 +23,21 @@ item_text items.Vxlan = codes "VXLAN "
 abbrev pub action_text : ActionKind → List ℕ
 action_text actions.Void = codes " VOID"
 action_text actions.Queue = codes " QUEUE"
+action_text actions.Rss = codes " RSS"
 action_text actions.Drop = codes " DROP"
 action_text actions.Jump = codes " JUMP"
+action_text actions.Mark = codes " MARK"
+action_text actions.MacSrc = codes " SET_MAC_SRC"
+action_text actions.MacDst = codes " SET_MAC_DST"
+action_text actions.Ipv4Src = codes " SET_IPV4_SRC"
+action_text actions.Ipv4Dst = codes " SET_IPV4_DST"
+action_text actions.Ipv6Src = codes " SET_IPV6_SRC"
+action_text actions.Ipv6Dst = codes " SET_IPV6_DST"
+action_text actions.PortSrc = codes " SET_TP_SRC"
+action_text actions.PortDst = codes " SET_TP_DST"
+action_text actions.DecTtl = codes " DEC_TTL"
+action_text actions.SetTtl = codes " SET_TTL"
+action_text actions.SetVid = codes " OF_SET_VLAN_VID"
 
 -- a line behind the columns' names: id, group and priority, and the names of items and actions
 abbrev pub row_text : ListRow → List ℕ

@@ -34,8 +34,21 @@ fn action_name(action: ActionKind) -> &'static [u8]
     match action {
         ActionKind::Void => b" VOID",
         ActionKind::Queue => b" QUEUE",
+        ActionKind::Rss => b" RSS",
         ActionKind::Drop => b" DROP",
         ActionKind::Jump => b" JUMP",
+        ActionKind::Mark => b" MARK",
+        ActionKind::MacSrc => b" SET_MAC_SRC",
+        ActionKind::MacDst => b" SET_MAC_DST",
+        ActionKind::Ipv4Src => b" SET_IPV4_SRC",
+        ActionKind::Ipv4Dst => b" SET_IPV4_DST",
+        ActionKind::Ipv6Src => b" SET_IPV6_SRC",
+        ActionKind::Ipv6Dst => b" SET_IPV6_DST",
+        ActionKind::PortSrc => b" SET_TP_SRC",
+        ActionKind::PortDst => b" SET_TP_DST",
+        ActionKind::DecTtl => b" DEC_TTL",
+        ActionKind::SetTtl => b" SET_TTL",
+        ActionKind::SetVid => b" OF_SET_VLAN_VID",
     }
 }
 

@@ -8,6 +8,7 @@ pub mod TurnSteps
 pub mod IdSteps
 pub mod TurnsWritten
 pub mod WrittenItems
+pub mod WrittenLists
 pub mod WrittenActions
 pub mod WrittenAttributes
 pub mod WrittenIds

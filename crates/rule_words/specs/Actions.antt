@@ -1,50 +1,101 @@
--- The actions of a rule: `{ ACTION "/" } "end"`, where an action is a word, and behind some words stand values.
+-- The actions of a rule: `{ ACTION "/" } "end"`, where an action is a word, and inside some actions stand values, each
+-- behind its word, or lists.
 use Rattle.std.specs.Prelude.{ℕ, ◌+◌, ◌-◌, ◌<◌, ◌^◌, min, nat_lt, IfSome, List, [], ◌∷◌, ◌++◌, length, codes, bytes_eq, Option, None, Some, option_map, if◌then◌else◌}
+use Rattle.packet_headers.specs.declared.edits.Edit.TheVariants as edits
+use Rattle.flow_actions.specs.Kinds.{kind_of}
 use Rattle.flow_actions.specs.declared.action.Action.{Action}
-use Rattle.flow_actions.specs.declared.action.Action.TheVariants as action
+use Rattle.flow_actions.specs.declared.action.Action.TheVariants as actions
+use Rattle.flow_actions.specs.declared.action.ActionKind.{ActionKind}
+use Rattle.flow_actions.specs.declared.action.ActionKind.TheVariants as kinds
 use Rattle.flow_actions.specs.declared.action.Actions.{Actions}
 use Rattle.rule_words.specs.Vocabulary.{meaning_of}
+use Rattle.rule_words.specs.declared.address.Address.TheVariants as address
 use Rattle.rule_words.specs.declared.value.Form.{Form}
 use Rattle.rule_words.specs.declared.value.Form.TheVariants as forms
 use Rattle.rule_words.specs.Value.{width_of, value_of}
 use Rattle.rule_words.specs.Turns.{◌>>=◌, up_to}
+use Rattle.rule_words.specs.RssLists.{no_lists, rss_setting}
 
--- the action that a word begins; one whose value isn't named has the value 0
-abbrev pub words : List (List ℕ × Action)
+-- the kind of action that a word begins
+abbrev pub words : List (List ℕ × ActionKind)
 words =
-    (codes "void", action.Void)
-    ∷ (codes "queue", action.Queue 0)
-    ∷ (codes "drop", action.Drop)
-    ∷ (codes "jump", action.Jump 0)
+    (codes "void", kinds.Void)
+    ∷ (codes "queue", kinds.Queue)
+    ∷ (codes "rss", kinds.Rss)
+    ∷ (codes "drop", kinds.Drop)
+    ∷ (codes "jump", kinds.Jump)
+    ∷ (codes "mark", kinds.Mark)
+    ∷ (codes "set_mac_src", kinds.MacSrc)
+    ∷ (codes "set_mac_dst", kinds.MacDst)
+    ∷ (codes "set_ipv4_src", kinds.Ipv4Src)
+    ∷ (codes "set_ipv4_dst", kinds.Ipv4Dst)
+    ∷ (codes "set_ipv6_src", kinds.Ipv6Src)
+    ∷ (codes "set_ipv6_dst", kinds.Ipv6Dst)
+    ∷ (codes "set_tp_src", kinds.PortSrc)
+    ∷ (codes "set_tp_dst", kinds.PortDst)
+    ∷ (codes "dec_ttl", kinds.DecTtl)
+    ∷ (codes "set_ttl", kinds.SetTtl)
+    ∷ (codes "of_set_vlan_vid", kinds.SetVid)
     ∷ []
 
--- the word in front of an action's value, and how the value is written
-abbrev pub value_row : Action → Option (List ℕ × Form)
-value_row action.Void = None
-value_row (action.Queue queue) = Some (codes "index", forms.Number 16)
-value_row action.Drop = None
-value_row (action.Jump group) = Some (codes "group", forms.Number 32)
+-- the word in front of the value of an action of a kind, and how the value is written
+abbrev pub value_row : ActionKind → Option (List ℕ × Form)
+value_row kinds.Void = None
+value_row kinds.Queue = Some (codes "index", forms.Number 16)
+value_row kinds.Rss = None
+value_row kinds.Drop = None
+value_row kinds.Jump = Some (codes "group", forms.Number 32)
+value_row kinds.Mark = Some (codes "id", forms.Number 32)
+value_row kinds.MacSrc = Some (codes "mac_addr", forms.Address address.Mac)
+value_row kinds.MacDst = Some (codes "mac_addr", forms.Address address.Mac)
+value_row kinds.Ipv4Src = Some (codes "ipv4_addr", forms.Address address.Ip4)
+value_row kinds.Ipv4Dst = Some (codes "ipv4_addr", forms.Address address.Ip4)
+value_row kinds.Ipv6Src = Some (codes "ipv6_addr", forms.Address address.Ip6)
+value_row kinds.Ipv6Dst = Some (codes "ipv6_addr", forms.Address address.Ip6)
+value_row kinds.PortSrc = Some (codes "port", forms.Number 16)
+value_row kinds.PortDst = Some (codes "port", forms.Number 16)
+value_row kinds.DecTtl = None
+value_row kinds.SetTtl = Some (codes "ttl_value", forms.Number 8)
+value_row kinds.SetVid = Some (codes "vlan_vid", forms.Number 16)
 
--- the action with another value
-abbrev pub with_value : Action → ℕ → Action
-with_value action.Void value = action.Void
-with_value (action.Queue queue) value = action.Queue value
-with_value action.Drop value = action.Drop
-with_value (action.Jump group) value = action.Jump value
+-- the action of a kind with a value; RSS is the one without a list
+abbrev pub with_value : ActionKind → ℕ → Action
+with_value kinds.Void value = actions.Void
+with_value kinds.Queue value = actions.Queue value
+with_value kinds.Rss value = actions.Rss no_lists
+with_value kinds.Drop value = actions.Drop
+with_value kinds.Jump value = actions.Jump value
+with_value kinds.Mark value = actions.Mark value
+with_value kinds.MacSrc value = actions.Set (edits.MacSrc value)
+with_value kinds.MacDst value = actions.Set (edits.MacDst value)
+with_value kinds.Ipv4Src value = actions.Set (edits.Ipv4Src value)
+with_value kinds.Ipv4Dst value = actions.Set (edits.Ipv4Dst value)
+with_value kinds.Ipv6Src value = actions.Set (edits.Ipv6Src value)
+with_value kinds.Ipv6Dst value = actions.Set (edits.Ipv6Dst value)
+with_value kinds.PortSrc value = actions.Set (edits.PortSrc value)
+with_value kinds.PortDst value = actions.Set (edits.PortDst value)
+with_value kinds.DecTtl value = actions.Set edits.DecTtl
+with_value kinds.SetTtl value = actions.Set (edits.SetTtl value)
+with_value kinds.SetVid value = actions.Set (edits.SetVid value)
 
--- the value of such an action has no more bits than its form
-abbrev pub FitsIn : Action → ℕ → Type 0
-FitsIn a value = IfSome (value_row a) (λ row. value < 2 ^ width_of row.1)
+-- the value of an action of a kind has no more bits than its form
+abbrev pub FitsIn : ActionKind → ℕ → Type 0
+FitsIn kind value = IfSome (value_row kind) (λ row. value < 2 ^ width_of row.1)
 
--- the action with the value that a word is, behind the word in front of it
-abbrev pub with_word : Action → List ℕ → List ℕ → Option Action
-with_word a name word = value_row a >>= λ row. if bytes_eq name row.0 then option_map (with_value a) (value_of row.1 word) else None
+-- the action of a kind with the value that a word is, behind the word in front of it
+abbrev pub with_word : ActionKind → List ℕ → List ℕ → Option Action
+with_word kind name word = value_row kind >>= λ row. if bytes_eq name row.0 then option_map (with_value kind) (value_of row.1 word) else None
+
+-- NAME VALUE: what the first words inside an action say where it has a value
+abbrev pub value_setting : ActionKind → List (List ℕ) → Option (Action × List (List ℕ))
+value_setting kind [] = None
+value_setting kind (name ∷ []) = None
+value_setting kind (name ∷ value ∷ rest) = option_map (λ after. (after, rest)) (with_word kind name value)
 
 -- what the first words inside an action say
 abbrev pub setting : Action → List (List ℕ) → Option (Action × List (List ℕ))
-setting a [] = None
-setting a (name ∷ []) = None
-setting a (name ∷ value ∷ rest) = option_map (λ after. (after, rest)) (with_word a name value)
+setting (actions.Rss rss) rest = option_map (λ read. (actions.Rss read.0, read.1)) (rss_setting rss rest)
+setting a rest = value_setting (kind_of a) rest
 
 abbrev pub no_actions : Actions
 no_actions = record { list = record { items = [] }; more = 0 }
@@ -56,11 +107,11 @@ with_action actions a =
     then record actions { list = record { items = actions.list.items ++ a ∷ [] } }
     else record actions { more = min (actions.more + 1) (2 ^ 16 - 1) }
 
--- ACTION "/"
+-- ACTION "/"; what isn't named is 0
 abbrev pub action_behind : Actions → List (List ℕ) → Option (Actions × List (List ℕ))
 action_behind so_far [] = None
 action_behind so_far (word ∷ rest) =
-    meaning_of words word >>= λ a. option_map (λ read. (with_action so_far read.0, read.1)) (up_to (codes "/") setting a rest)
+    meaning_of words word >>= λ kind. option_map (λ read. (with_action so_far read.0, read.1)) (up_to (codes "/") setting (with_value kind 0) rest)
 
 -- the actions that words make up to `end`, behind those so far, and the words behind it
 abbrev pub actions_of : List (List ℕ) → Option (Actions × List (List ℕ))

@@ -7,6 +7,7 @@ pub mod Ids
 pub mod Items
 pub mod Number
 pub mod Relations
+pub mod RssLists
 pub mod Turns
 pub mod Value
 pub mod Vocabulary

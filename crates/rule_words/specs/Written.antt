@@ -1,7 +1,10 @@
 -- Attributes, items, actions and ids as they are written, and what they say: the grammar in its own order.
-use Rattle.std.specs.Prelude.{ℕ, true, List, [], ◌∷◌, ◌++◌, codes, bytes_eq, Bool, false, Option, Some, option_map}
+use Rattle.std.specs.Prelude.{ℕ, true, List, [], ◌∷◌, ◌++◌, codes, bytes_eq, Bool, false, Option, None, Some, option_map}
+use Rattle.flow_actions.specs.Kinds.{kind_of}
 use Rattle.flow_actions.specs.declared.action.Action.{Action}
+use Rattle.flow_actions.specs.declared.action.Action.TheVariants as actions
 use Rattle.flow_actions.specs.declared.action.Actions.{Actions}
+use Rattle.flow_actions.specs.declared.rss.Rss.{Rss}
 use Rattle.flow_rules.specs.declared.spec.Attr.{Attr}
 use Rattle.pattern_items.specs.declared.pattern.Item.{Item}
 use Rattle.pattern_items.specs.declared.pattern.Pattern.{Pattern}
@@ -9,7 +12,10 @@ use Rattle.rule_words.specs.Vocabulary.{meaning_of}
 use Rattle.rule_words.specs.Number.{number_of_bits}
 use Rattle.rule_words.specs.Turns.{◌>>=◌}
 use Rattle.rule_words.specs.Items.{kinds, item_of, with_item, with_field}
-use Rattle.rule_words.specs.Actions.{words, with_word, with_action}
+use Rattle.rule_words.specs.declared.rss_lists.RssList.{RssList}
+use Rattle.rule_words.specs.declared.rss_lists.RssList.TheVariants as lists
+use Rattle.rule_words.specs.RssLists.{list_words, no_queues, no_types, with_queue, with_queues, with_type, with_types}
+use Rattle.rule_words.specs.Actions.{words, with_value, with_word, with_action}
 
 -- things that are written one after the other, and the ending word
 abbrev pub words_up_to : {X : Type 0} → List ℕ → (X → List (List ℕ)) → List X → List (List ℕ)
@@ -66,27 +72,39 @@ item_words i = i.kind ∷ words_up_to (codes "/") field_words i.fields
 abbrev pub pattern_with : Pattern → WrittenItem → Option Pattern
 pattern_with so_far i = meaning_of kinds i.kind >>= λ k. option_map (with_item so_far) (made_by item_with (item_of k) i.fields)
 
--- a value behind its word
-pub record WrittenValue : Type 0 where
-  pub name : List ℕ
-  pub value : List ℕ
+-- NAME VALUE, or NAME { WORD } "end"
+pub data WrittenSetting : Type 0 where
+  Value : List ℕ → List ℕ → WrittenSetting
+  Listed : List ℕ → List (List ℕ) → WrittenSetting
 
-abbrev pub value_words : WrittenValue → List (List ℕ)
-value_words v = v.name ∷ v.value ∷ []
+-- a word alone
+abbrev pub alone : List ℕ → List (List ℕ)
+alone word = word ∷ []
 
-abbrev pub action_with : Action → WrittenValue → Option Action
-action_with a v = with_word a v.name v.value
+abbrev pub setting_words : WrittenSetting → List (List ℕ)
+setting_words (Value name value) = name ∷ value ∷ []
+setting_words (Listed name listed) = name ∷ words_up_to (codes "end") alone listed
+
+abbrev pub list_with : Rss → List (List ℕ) → RssList → Option Rss
+list_with rss listed lists.Queues = option_map (with_queues rss) (made_by with_queue no_queues listed)
+list_with rss listed lists.Types = option_map (with_types rss) (made_by with_type no_types listed)
+
+-- a list stands in RSS alone, and a value in no RSS
+abbrev pub action_with : Action → WrittenSetting → Option Action
+action_with a (Value name value) = with_word (kind_of a) name value
+action_with (actions.Rss rss) (Listed name listed) = option_map actions.Rss (meaning_of list_words name >>= list_with rss listed)
+action_with a (Listed name listed) = None
 
 -- ACTION "/"
 pub record WrittenAction : Type 0 where
   pub word : List ℕ
-  pub values : List WrittenValue
+  pub settings : List WrittenSetting
 
 abbrev pub action_words : WrittenAction → List (List ℕ)
-action_words a = a.word ∷ words_up_to (codes "/") value_words a.values
+action_words a = a.word ∷ words_up_to (codes "/") setting_words a.settings
 
 abbrev pub actions_with : Actions → WrittenAction → Option Actions
-actions_with so_far a = meaning_of words a.word >>= λ begun. option_map (with_action so_far) (made_by action_with begun a.values)
+actions_with so_far a = meaning_of words a.word >>= λ kind. option_map (with_action so_far) (made_by action_with (with_value kind 0) a.settings)
 
 -- ids, each behind one word
 abbrev pub id_words : List ℕ → List (List ℕ) → List (List ℕ)

@@ -1,81 +1,136 @@
 //! The actions of a rule.
-ghost use Rattle.std.specs.Prelude.{◌≡◌, ◌≤◌, IfSome, map, option_map};
+ghost use Rattle.std.specs.Prelude.{◌≡◌, ◌≤◌, IfSome, length, drop, map, option_map};
+ghost use Rattle.flow_actions.specs.Kinds.{kind_of};
 ghost use Rattle.rule_words.specs.Actions as spec;
 ghost use Rattle.rule_words.specs.Actions.{FitsIn};
 ghost use Rattle.rule_words.specs.Value.{width_of};
 ghost use Rattle.rule_words.specs.Vocabulary.{meaning_of};
 
+use crate::address::Address;
+use crate::rss_lists::no_lists;
 use crate::turns::{TurnReader, behind, read_up_to};
 use crate::value::{Form, read_value};
 use crate::vocabulary::meaning;
 use arrayvec::ArrayVec;
-use flow_actions::{Action, Actions};
+use flow_actions::{Action, ActionKind, Actions};
+use packet_headers::Edit;
 
-static WORDS: [(&str, Action); 4] = [
-    ("void", Action::Void),
-    ("queue", Action::Queue(0)),
-    ("drop", Action::Drop),
-    ("jump", Action::Jump(0)),
+static WORDS: [(&str, ActionKind); 17] = [
+    ("void", ActionKind::Void),
+    ("queue", ActionKind::Queue),
+    ("rss", ActionKind::Rss),
+    ("drop", ActionKind::Drop),
+    ("jump", ActionKind::Jump),
+    ("mark", ActionKind::Mark),
+    ("set_mac_src", ActionKind::MacSrc),
+    ("set_mac_dst", ActionKind::MacDst),
+    ("set_ipv4_src", ActionKind::Ipv4Src),
+    ("set_ipv4_dst", ActionKind::Ipv4Dst),
+    ("set_ipv6_src", ActionKind::Ipv6Src),
+    ("set_ipv6_dst", ActionKind::Ipv6Dst),
+    ("set_tp_src", ActionKind::PortSrc),
+    ("set_tp_dst", ActionKind::PortDst),
+    ("dec_ttl", ActionKind::DecTtl),
+    ("set_ttl", ActionKind::SetTtl),
+    ("of_set_vlan_vid", ActionKind::SetVid),
 ];
 
-/// The action that a word begins.
-fn begun_by(word: &[u8]) -> Option<Action>
+/// The kind of action that a word begins.
+fn begun_by(word: &[u8]) -> Option<ActionKind>
     ensures { result ≡ meaning_of spec.words word.now }
 {
     meaning(&WORDS, word)
 }
 
-/// The word in front of an action's value, and how the value is written.
-fn value_row(action: Action) -> Option<(&'static [u8], Form)>
-    ensures value { option_map (λ row. (row.0.now, row.1)) result ≡ spec.value_row action }
+/// The word in front of the value of an action of a kind, and how the value is written.
+fn value_row(kind: ActionKind) -> Option<(&'static [u8], Form)>
+    ensures value { option_map (λ row. (row.0.now, row.1)) result ≡ spec.value_row kind }
     ensures narrow { IfSome result (λ row. width_of row.1 ≤ 128) }
 {
-    match action {
-        Action::Void => None,
-        Action::Queue(_) => Some((b"index", Form::Number(16))),
-        Action::Drop => None,
-        Action::Jump(_) => Some((b"group", Form::Number(32))),
+    match kind {
+        ActionKind::Void => None,
+        ActionKind::Queue => Some((b"index", Form::Number(16))),
+        ActionKind::Rss => None,
+        ActionKind::Drop => None,
+        ActionKind::Jump => Some((b"group", Form::Number(32))),
+        ActionKind::Mark => Some((b"id", Form::Number(32))),
+        ActionKind::MacSrc => Some((b"mac_addr", Form::Address(Address::Mac))),
+        ActionKind::MacDst => Some((b"mac_addr", Form::Address(Address::Mac))),
+        ActionKind::Ipv4Src => Some((b"ipv4_addr", Form::Address(Address::Ip4))),
+        ActionKind::Ipv4Dst => Some((b"ipv4_addr", Form::Address(Address::Ip4))),
+        ActionKind::Ipv6Src => Some((b"ipv6_addr", Form::Address(Address::Ip6))),
+        ActionKind::Ipv6Dst => Some((b"ipv6_addr", Form::Address(Address::Ip6))),
+        ActionKind::PortSrc => Some((b"port", Form::Number(16))),
+        ActionKind::PortDst => Some((b"port", Form::Number(16))),
+        ActionKind::DecTtl => None,
+        ActionKind::SetTtl => Some((b"ttl_value", Form::Number(8))),
+        ActionKind::SetVid => Some((b"vlan_vid", Form::Number(16))),
     }
 }
 
-/// The action with another value.
-fn with_value(action: Action, value: u128) -> Action
-    requires { FitsIn action value }
-    ensures { result ≡ spec.with_value action value }
+/// The action of a kind with a value. RSS is the one without a list.
+fn with_value(kind: ActionKind, value: u128) -> Action
+    requires { FitsIn kind value }
+    ensures { result ≡ spec.with_value kind value }
 {
-    match action {
-        Action::Void => Action::Void,
-        Action::Queue(_) => Action::Queue(value as u16),
-        Action::Drop => Action::Drop,
-        Action::Jump(_) => Action::Jump(value as u32),
+    match kind {
+        ActionKind::Void => Action::Void,
+        ActionKind::Queue => Action::Queue(value as u16),
+        ActionKind::Rss => Action::Rss(no_lists()),
+        ActionKind::Drop => Action::Drop,
+        ActionKind::Jump => Action::Jump(value as u32),
+        ActionKind::Mark => Action::Mark(value as u32),
+        ActionKind::MacSrc => Action::Set(Edit::MacSrc(value as u64)),
+        ActionKind::MacDst => Action::Set(Edit::MacDst(value as u64)),
+        ActionKind::Ipv4Src => Action::Set(Edit::Ipv4Src(value as u32)),
+        ActionKind::Ipv4Dst => Action::Set(Edit::Ipv4Dst(value as u32)),
+        ActionKind::Ipv6Src => Action::Set(Edit::Ipv6Src(value)),
+        ActionKind::Ipv6Dst => Action::Set(Edit::Ipv6Dst(value)),
+        ActionKind::PortSrc => Action::Set(Edit::PortSrc(value as u16)),
+        ActionKind::PortDst => Action::Set(Edit::PortDst(value as u16)),
+        ActionKind::DecTtl => Action::Set(Edit::DecTtl),
+        ActionKind::SetTtl => Action::Set(Edit::SetTtl(value as u8)),
+        ActionKind::SetVid => Action::Set(Edit::SetVid(value as u16)),
     }
 }
 
-/// The action with the value that a word is, behind the word in front of it.
-fn with_word(action: Action, name: &[u8], word: &[u8]) -> Option<Action>
-    ensures { result ≡ spec.with_word action name.now word.now }
+/// The action of a kind with the value that a word is, behind the word in front of it.
+fn with_word(kind: ActionKind, name: &[u8], word: &[u8]) -> Option<Action>
+    ensures { result ≡ spec.with_word kind name.now word.now }
 {
-    let (value_name, form) = value_row(action)?;
+    let (value_name, form) = value_row(kind)?;
     if name != value_name {
         return None;
     }
     let value = read_value(form, word)?;
-    Some(with_value(action, value))
+    Some(with_value(kind, value))
+}
+
+/// Takes in a word and the value behind it.
+fn take_value(action: &mut Action, words: &[&[u8]]) -> Option<usize>
+    ensures value { option_map (λ taken. (action.new, drop taken (map (λ word. word.now) words.now))) result
+        ≡ spec.value_setting (kind_of action.old) (map (λ word. word.now) words.now) }
+    ensures few { IfSome result (λ taken. taken ≤ length words.now) }
+{
+    let [name, word, ..] = words else {
+        return None;
+    };
+    let Some(after) = with_word(action.kind(), name, word) else {
+        return None;
+    };
+    *action = after;
+    Some(2)
 }
 
 impl TurnReader for Action {
     ghost turn = { spec.setting };
 
-    /// A word and the value behind it.
+    /// What stands inside an action: lists in RSS, a word and its value in the others.
     fn take_turn(&mut self, words: &[&[u8]]) -> Option<usize> {
-        let [name, word, ..] = words else {
-            return None;
-        };
-        let Some(after) = with_word(*self, name, word) else {
-            return None;
-        };
-        *self = after;
-        Some(2)
+        if let Action::Rss(rss) = self {
+            return rss.take_turn(words);
+        }
+        take_value(self, words)
     }
 }
 
@@ -87,10 +142,10 @@ impl TurnReader for Actions {
         let Some((word, rest)) = words.split_first() else {
             return None;
         };
-        let Some(action) = begun_by(word) else {
+        let Some(kind) = begun_by(word) else {
             return None;
         };
-        let mut action = action;
+        let mut action = with_value(kind, 0);
         let Some(taken) = read_up_to(b"/", &mut action, rest) else {
             return None;
         };

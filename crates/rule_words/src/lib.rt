@@ -20,9 +20,9 @@
 //! The model: words are lists of bytes. A list is read turn by turn up to its ending word, and a turn is a definition by
 //! cases on words: what the first of them say, and what is left. `specs/Turns` says how turns make a list, and it is the
 //! same for attributes, items, the fields of an item, actions and the values of an action; a list inside a list, up to an
-//! `end` of its own, is a turn that reads up to that. So a word more is a row of a table and a case that says what its
-//! value does. `specs/Attributes`, `Items`, `Actions` and `Ids` have the turns, `specs/FieldWords`, `Relations`, `Value`,
-//! `Number` and `Address` what stands in one, and `specs/Vocabulary` the look-up.
+//! `end` of its own, is a turn that reads up to that, as the lists of RSS are. So a word more is a row of a table and a
+//! case that says what its value does. `specs/Attributes`, `Items`, `Actions`, `RssLists` and `Ids` have the turns,
+//! `specs/FieldWords`, `Relations`, `Value`, `Number` and `Address` what stands in one, and `specs/Vocabulary` the look-up.
 //!
 //! `specs/Written` has the grammar in its own order, and the four laws of `written.rt` say that what is written by it is
 //! read as what it says; for items and actions also that what is read was written so.
@@ -40,6 +40,7 @@ mod ids;
 mod items;
 mod number;
 mod relations;
+mod rss_lists;
 mod turns;
 mod value;
 mod vocabulary;
