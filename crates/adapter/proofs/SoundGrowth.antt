@@ -34,9 +34,9 @@ IsLegalBehind-push limits before (x ∷ h) e legal right =
 -- the state behind one more entry
 pub state_of-push : (limits : Limits) (h : List Entry) (e : Entry) → state_of limits (h ++ e ∷ []) ≡ state_behind limits (state_of limits h) e
 unfolding state_of
-state_of-push limits h e = fold-append (state_behind limits) opening h (e ∷ [])
+state_of-push limits h e = fold-append (state_behind limits) (opening limits) h (e ∷ [])
 
-pub state_of-nil : (limits : Limits) → state_of limits [] ≡ opening
+pub state_of-nil : (limits : Limits) → state_of limits [] ≡ opening limits
 unfolding state_of
 state_of-nil limits = refl
 
@@ -48,7 +48,7 @@ abbrev pub standing : State → Totals → Standing
 standing s totals = record { state = s; totals = totals }
 
 -- an adapter without rules and entries
-pub Sound-nil : (limits : Limits) (s : State) → s ≡ opening → AreLimits limits
+pub Sound-nil : (limits : Limits) (s : State) → s ≡ opening limits → AreLimits limits
     → Sound limits (standing s (record { received = 0; dropped = 0; queues = 0 ∷ 0 ∷ 0 ∷ 0 ∷ 0 ∷ 0 ∷ 0 ∷ 0 ∷ 0 ∷ 0 ∷ 0 ∷ 0 ∷ 0 ∷ 0 ∷ 0 ∷ 0 ∷ [] })) []
 Sound-nil limits s is ranges = record {
   ranges = ranges;
@@ -91,7 +91,7 @@ pub IsBelow-verdict : (limits : Limits) (h : List Entry) (layers : List LayerAt)
 IsBelow-verdict limits h layers v ranges is =
     subst (λ (w : Verdict). IsBelow 16 w.fate) (sym is)
     (IsBelow-more limits.rxq (verdict_of (flows_of (state_of limits h)) layers).fate ranges.queues
-    (verdict-below limits.rxq ranges.some_queue (flows_of (state_of limits h)) layers (IsUnder-state_of limits h).queues))
+    (verdict-below limits.rxq ranges.some_queue (flows_of (state_of limits h)) (IsUnder-state_of limits h).port layers (IsUnder-state_of limits h).queues))
 
 -- the totals can rise
 pub HasRoom-totals : (limits : Limits) (at : Standing) (h : List Entry) → Sound limits at h → HasRoom at.totals

@@ -34,12 +34,12 @@ map-without id (r ∷ rules) = by (has_id id r.rule) (map-without id rules) wher
 
 changes-created : (s : State) (rule : RuleView) (fault : Option Fault)
     → flows_of (unless_refused fault (created rule s) s) ≡ fold changed (flows_of s) (change_unless_refused fault (changes.Added rule))
-changes-created s rule None = ap (λ rules. record { rules = rules; isolated = s.isolated }) (map-append rule_in s.rules (record { rule = rule; table = None } ∷ []))
+changes-created s rule None = ap (λ rules. record { rules = rules; isolated = s.isolated; rxq = s.rxq }) (map-append rule_in s.rules (record { rule = rule; table = None } ∷ []))
 changes-created s rule (Some fault) = refl
 
 changes-destroyed : (s : State) (id : ℕ) (there : Bool)
     → flows_of (cond there (destroyed id s) s) ≡ fold changed (flows_of s) (cond there (changes.Removed id ∷ []) [])
-changes-destroyed s id true = ap (λ rules. record { rules = rules; isolated = s.isolated }) (map-without id s.rules)
+changes-destroyed s id true = ap (λ rules. record { rules = rules; isolated = s.isolated; rxq = s.rxq }) (map-without id s.rules)
 changes-destroyed s id false = refl
 
 pub are_its_changes : (limits : Limits) (s : State) (op : Op) → AreItsChanges limits s op
@@ -57,6 +57,7 @@ are_its_changes limits s (ops.Bad _) = refl
 -- what a state keeps under its limits
 pub record IsUnder (limits : Limits) (s : State) : Type 0 where
   pub numbers : s.ids < 2 ^ 32
+  pub port : s.rxq ≡ limits.rxq
   pub queues : All (IsFor limits.rxq) (map rule_in s.rules)
 
 first_of-none : (a b : Option Fault) → first_of a b ≡ None → (a ≡ None) × (b ≡ None)
@@ -81,6 +82,7 @@ IsUnder-created limits s spec None is v =
     let rule : RuleView = rule_of s.ids spec in
     record {
       numbers = omega (arith, below);
+      port = v.port;
       queues = subst (All (IsFor limits.rxq)) (sym (map-append rule_in s.rules (record { rule = rule; table = None } ∷ [])))
           (All-append (IsFor limits.rxq) (map rule_in s.rules) (rule ∷ []) v.queues
           (All-cons (IsFor limits.rxq) rule [] (on_port-clear limits (kinds_in s) spec parts.0) (All-nil (IsFor limits.rxq))));
@@ -89,6 +91,7 @@ IsUnder-created limits s spec None is v =
 IsUnder-destroyed : (limits : Limits) (s : State) (id : ℕ) (there : Bool) → IsUnder limits s → IsUnder limits (cond there (destroyed id s) s)
 IsUnder-destroyed limits s id true v = record {
   numbers = v.numbers;
+  port = v.port;
   queues = subst (All (IsFor limits.rxq)) (sym (map-without id s.rules)) (All-filter (λ (rule : RuleView). not (has_id id rule)) (IsFor limits.rxq) (map rule_in s.rules) v.queues);
 }
 IsUnder-destroyed limits s id false v = v
@@ -97,9 +100,9 @@ pub IsUnder-next : (limits : Limits) (s : State) (op : Op) → IsUnder limits s 
 IsUnder-next limits s (ops.Validate spec) v = v
 IsUnder-next limits s (ops.Create spec) v = IsUnder-created limits s spec (create_fault limits s spec) refl v
 IsUnder-next limits s (ops.Destroy id) v = IsUnder-destroyed limits s id (is_in_effect id s) v
-IsUnder-next limits s ops.Flush v = record { numbers = v.numbers; queues = All-nil (IsFor limits.rxq) }
+IsUnder-next limits s ops.Flush v = record { numbers = v.numbers; port = v.port; queues = All-nil (IsFor limits.rxq) }
 IsUnder-next limits s ops.List v = v
-IsUnder-next limits s (ops.Isolate on) v = record { numbers = v.numbers; queues = v.queues }
+IsUnder-next limits s (ops.Isolate on) v = record { numbers = v.numbers; port = v.port; queues = v.queues }
 IsUnder-next limits s (ops.Start _) v = v
 IsUnder-next limits s ops.Stop v = v
 IsUnder-next limits s ops.Quit v = v
@@ -116,4 +119,4 @@ IsUnder-fold limits s (e ∷ h) v = IsUnder-fold limits (state_behind limits s e
 -- the state behind any history
 pub IsUnder-state_of : (limits : Limits) (h : List Entry) → IsUnder limits (state_of limits h)
 unfolding state_of
-IsUnder-state_of limits h = IsUnder-fold limits opening h (record { numbers = omega arith; queues = All-nil (IsFor limits.rxq) })
+IsUnder-state_of limits h = IsUnder-fold limits (opening limits) h (record { numbers = omega arith; port = refl; queues = All-nil (IsFor limits.rxq) })

@@ -17,22 +17,23 @@ use Rattle.adapter.specs.declared.entry.Entry.{Entry}
 use Rattle.adapter.specs.declared.entry.Entry.TheVariants.{Asked, Passed}
 use Rattle.adapter.specs.declared.in_effect.InEffect.{InEffect}
 
--- the rules in effect, in the order in which they took effect, each with its table, if it has one; whether a miss drops; and
--- how many rule ids were given
+-- the rules in effect, in the order in which they took effect, each with its table, if it has one; whether a miss drops; how
+-- many rule ids were given; and how many Rx queues the port has
 pub record State : Type 0 where
   pub rules : List InEffect
   pub isolated : Bool
   pub ids : ℕ
+  pub rxq : ℕ
 
-abbrev pub opening : State
-opening = record { rules = []; isolated = false; ids = 0 }
+abbrev pub opening : Limits → State
+opening limits = record { rules = []; isolated = false; ids = 0; rxq = limits.rxq }
 
 -- what packets see of a state
 abbrev pub rule_in : InEffect → RuleView
 rule_in r = r.rule
 
 abbrev pub flows_of : State → Flows
-flows_of s = record { rules = map rule_in s.rules; isolated = s.isolated }
+flows_of s = record { rules = map rule_in s.rules; isolated = s.isolated; rxq = s.rxq }
 
 -- a rule that stands in no table: `flow create` made it, and `flow destroy` takes it away
 abbrev pub is_plain : InEffect → Bool
@@ -113,4 +114,4 @@ state_behind limits s (Passed caller parcel verdict) = s
 
 -- the state behind a history
 unfoldable pub state_of : Limits → List Entry → State
-state_of limits history = fold (state_behind limits) opening history
+state_of limits history = fold (state_behind limits) (opening limits) history

@@ -5,7 +5,7 @@ use Rattle.adapter.specs.State.{is_plain}
 use Rattle.adapter.specs.Room.{StateWithRoom}
 
 abbrev pub state_kept : Inside → StateWithRoom
-state_kept s = record { state = record { rules = s.rules.items; isolated = s.isolated; ids = s.ids }; room = vec_capacity s.rules - vec_len s.rules }
+state_kept s = record { state = record { rules = s.rules.items; isolated = s.isolated; ids = s.ids; rxq = s.rxq }; room = vec_capacity s.rules - vec_len s.rules }
 
 -- the rules without a table are counted
 abbrev pub IsCounted : Inside → Type 0

@@ -64,7 +64,7 @@ impl Adapter {
             limits,
             alloc,
             standing: Standing {
-                state: State::new(alloc),
+                state: State::new(alloc, &limits),
                 totals: Totals {
                     received: 0,
                     dropped: 0,

@@ -27,6 +27,8 @@ pub(crate) struct State {
     isolated: bool,
     /// How many rule ids were given.
     ids: u32,
+    /// How many Rx queues the port has.
+    rxq: u8,
 }
 
 impl Model for State {
@@ -54,18 +56,23 @@ impl FlowsInEffect for State {
     fn is_isolated(&self) -> bool {
         self.isolated
     }
+
+    fn rxq(&self) -> u8 {
+        self.rxq
+    }
 }
 
 impl State {
-    /// No rules.
-    pub(crate) fn new(alloc: Global) -> State
-        ensures { result.state ≡ opening }
+    /// No rules, under these limits.
+    pub(crate) fn new(alloc: Global, limits: &Limits) -> State
+        ensures { result.state ≡ opening limits.now }
     {
         State {
             rules: Vec::new(alloc),
             plain: 0,
             isolated: false,
             ids: 0,
+            rxq: limits.rxq,
         }
     }
 

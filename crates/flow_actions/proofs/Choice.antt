@@ -1,6 +1,6 @@
 -- The queue that a hash chooses, among those listed or among all.
-use Rattle.std.proofs.Common.{◌≡◌, ℕ, ◌%◌, ◌<◌, ◌==◌, true, false, List, [], ◌∷◌, length, slice_index, refl, ap, sym, ◌∙◌, zero-add, arith}
-use Rattle.std.specs.List.{range_with_len}
+use Rattle.std.proofs.Common.{◌≡◌, ℕ, ◌%◌, ◌<◌, ◌==◌, true, false, List, [], ◌∷◌, length, slice_index, refl, ap, sym, ◌∙◌, zero-add, arith, ◌≤◌, subst, mod-lt}
+use Rattle.std.specs.List.{range_with_len, All}
 use Rattle.std.proofs.lemmas.List.FromFn.{get_or-range_with_len, length-range_with_len}
 use Rattle.std.proofs.lemmas.Bool.{eqb-true}
 use Rattle.flow_actions.specs.Spread.{queues_of, chosen}
@@ -22,3 +22,12 @@ chosen-all [] rxq hash none below =
     sym (get_or-range_with_len 0 rxq (hash % rxq) 0 below ∙ zero-add (hash % rxq))
     ∙ ap (λ n. slice_index (range_with_len 0 rxq) (hash % n)) (sym (length-range_with_len 0 rxq))
 chosen-all (queue ∷ queues) rxq hash none below = absurd (omega (arith, eqb-true (length (queue ∷ queues)) 0 (sym none)))
+
+-- the queue is one of the port's, where those listed are
+pub chosen-below : (queues : List ℕ) (rxq hash : ℕ) → 1 ≤ rxq → All (λ queue. queue < rxq) queues → chosen (queues_of queues rxq) hash < rxq
+unfolding chosen
+chosen-below [] rxq hash one all =
+    let at : hash % rxq < rxq = mod-lt hash one in
+    subst (λ n. n < rxq) (sym (ap (λ n. slice_index (range_with_len 0 rxq) (hash % n)) (length-range_with_len 0 rxq)
+        ∙ (get_or-range_with_len 0 rxq (hash % rxq) 0 at ∙ zero-add (hash % rxq)))) at
+chosen-below (queue ∷ queues) rxq hash one all = all (hash % length (queue ∷ queues)) 0 (mod-lt hash (omega arith))

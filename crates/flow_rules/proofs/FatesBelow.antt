@@ -1,9 +1,11 @@
 -- The queue of a verdict is one of the port's, where the queues of all rules are.
-use Rattle.std.proofs.Common.{ℕ, ◌≤◌, Bool, true, false, List, Option, None, Some}
+use Rattle.std.proofs.Common.{◌≡◌, ℕ, ◌≤◌, ◌<◌, sym, subst, Bool, true, false, List, Option, None, Some}
 use Rattle.std.specs.List.{All}
 use Rattle.packet_headers.specs.declared.items.LayerAt.{LayerAt}
 use Rattle.flow_actions.specs.declared.action.Action.{Action}
 use Rattle.flow_actions.specs.declared.action.Action.TheVariants as actions
+use Rattle.flow_actions.specs.Spread.{hash_in, queue_in}
+use Rattle.flow_actions.proofs.Choice.{chosen-below}
 use Rattle.flow_rules.specs.declared.walk.Course.{Course}
 use Rattle.flow_rules.specs.declared.walk.Course.TheVariants as courses
 use Rattle.flow_rules.specs.RuleView.{RuleView}
@@ -22,29 +24,30 @@ missed-below : (rxq : ℕ) → 1 ≤ rxq → (isolated : Bool) → IsBelow rxq (
 missed-below rxq one true = tt
 missed-below rxq one false = one
 
-performed-below : (rxq : ℕ) (flows : Flows) (rule : RuleView) (walked : Walked) (action : Action) → IsOnPort rxq action → IsEndBelow rxq walked.next
-    → IsEndBelow rxq (performed flows rule walked action).next
-performed-below rxq flows rule walked actions.Void there below = below
-performed-below rxq flows rule walked (actions.Queue queue) there below = there
-performed-below rxq flows rule walked actions.Drop there below = tt
-performed-below rxq flows rule walked (actions.Jump to) there below = tt
-performed-below rxq flows rule walked (actions.Rss rss) there below = below
-performed-below rxq flows rule walked (actions.Mark mark) there below = below
-performed-below rxq flows rule walked (actions.Set edit) there below = below
+performed-below : (rxq : ℕ) → 1 ≤ rxq → (flows : Flows) → flows.rxq ≡ rxq → (rule : RuleView) (walked : Walked) (action : Action) → IsOnPort rxq action
+    → IsEndBelow rxq walked.next → IsEndBelow rxq (performed flows rule walked action).next
+performed-below rxq one flows port rule walked actions.Void there below = below
+performed-below rxq one flows port rule walked (actions.Queue queue) there below = there
+performed-below rxq one flows port rule walked actions.Drop there below = tt
+performed-below rxq one flows port rule walked (actions.Jump to) there below = tt
+performed-below rxq one flows port rule walked (actions.Rss rss) there below =
+    subst (λ n. queue_in rss n walked.layers < rxq) (sym port) (chosen-below rss.queues.items rxq (hash_in rss.types walked.layers) one there)
+performed-below rxq one flows port rule walked (actions.Mark mark) there below = below
+performed-below rxq one flows port rule walked (actions.Set edit) there below = below
 
-visited-below : (rxq : ℕ) → 1 ≤ rxq → (flows : Flows) (walked : Walked) (rule : Option RuleView) → HoldsOf (IsFor rxq) rule → IsEndBelow rxq (visited flows walked rule).next
-visited-below rxq one flows walked None holds = missed-below rxq one flows.isolated
-visited-below rxq one flows walked (Some rule) holds =
-    performed-keeps (IsOnPort rxq) (λ w. IsEndBelow rxq w.next) flows rule (performed-below rxq flows rule) _ rule.actions holds one
+visited-below : (rxq : ℕ) → 1 ≤ rxq → (flows : Flows) → flows.rxq ≡ rxq → (walked : Walked) (rule : Option RuleView) → HoldsOf (IsFor rxq) rule → IsEndBelow rxq (visited flows walked rule).next
+visited-below rxq one flows port walked None holds = missed-below rxq one flows.isolated
+visited-below rxq one flows port walked (Some rule) holds =
+    performed-keeps (IsOnPort rxq) (λ w. IsEndBelow rxq w.next) flows rule (performed-below rxq one flows port rule) _ rule.actions holds one
 
 fate-below : (rxq : ℕ) → 1 ≤ rxq → (isolated : Bool) (next : Course) → IsEndBelow rxq next → IsBelow rxq (fate_of isolated next)
 fate-below rxq one isolated (courses.End fate) below = below
 fate-below rxq one isolated (courses.Group group) below = missed-below rxq one isolated
 
-pub verdict-below : (rxq : ℕ) → 1 ≤ rxq → (flows : Flows) (layers : List LayerAt) → All (IsFor rxq) flows.rules → IsBelow rxq (verdict_of flows layers).fate
+pub verdict-below : (rxq : ℕ) → 1 ≤ rxq → (flows : Flows) → flows.rxq ≡ rxq → (layers : List LayerAt) → All (IsFor rxq) flows.rules → IsBelow rxq (verdict_of flows layers).fate
 unfolding verdict_of walk
-verdict-below rxq one flows layers all =
+verdict-below rxq one flows port layers all =
     fate-below rxq one flows.isolated (walked_by 16 flows (start layers)).next
     (visits-keep (λ w. IsEndBelow rxq w.next) flows
-    (λ w group below. visited-below rxq one flows w (best flows.rules group w.layers) (HoldsOf-best (IsFor rxq) flows.rules group w.layers all))
+    (λ w group below. visited-below rxq one flows port w (best flows.rules group w.layers) (HoldsOf-best (IsFor rxq) flows.rules group w.layers all))
     16 (start layers) tt)

@@ -72,7 +72,7 @@ ahead-performed k flows rule below walked actions.Void good ahead = ahead
 ahead-performed k flows rule below walked (actions.Queue queue) good ahead = tt
 ahead-performed k flows rule below walked actions.Drop good ahead = tt
 ahead-performed k flows rule below walked (actions.Jump to) good ahead = (omega (arith, below, good.0), good.1)
-ahead-performed k flows rule below walked (actions.Rss rss) good ahead = ahead
+ahead-performed k flows rule below walked (actions.Rss rss) good ahead = tt
 ahead-performed k flows rule below walked (actions.Mark mark) good ahead = ahead
 ahead-performed k flows rule below walked (actions.Set edit) good ahead = ahead
 

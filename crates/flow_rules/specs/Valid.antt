@@ -3,19 +3,20 @@
 use Rattle.std.specs.Prelude.{ℕ, ◌≡◌, ◌≤◌, ◌<◌, Bool, List, count_by, All}
 use Rattle.flow_actions.specs.declared.action.Action.{Action}
 use Rattle.flow_actions.specs.declared.action.Action.TheVariants as actions
+use Rattle.header_edit.specs.Field.{IsLawful}
 use Rattle.flow_actions.specs.Kinds.{kind_of, is_fate}
 use Rattle.flow_rules.specs.declared.rule.Rule.TheInside.{Inside}
 use Rattle.flow_rules.specs.RuleView.{RuleView}
 
--- an action's value, in a rule of this group: a queue has one byte, and there are 16 groups
+-- an action's value, in a rule of this group: a queue has one byte, there are 16 groups, and an edit's value fits its field
 abbrev pub IsGood : ℕ → Action → Type 0
 IsGood group actions.Void = Unit {0}
 IsGood group (actions.Queue queue) = queue < 256
 IsGood group actions.Drop = Unit {0}
 IsGood group (actions.Jump to) = (group < to) × (to ≤ 15)
-IsGood group (actions.Rss rss) = Unit {0}
+IsGood group (actions.Rss rss) = All (λ queue. queue < 256) rss.queues.items
 IsGood group (actions.Mark mark) = Unit {0}
-IsGood group (actions.Set edit) = Unit {0}
+IsGood group (actions.Set edit) = IsLawful edit
 
 abbrev pub has_fate : Action → Bool
 has_fate action = is_fate (kind_of action)
@@ -36,12 +37,12 @@ IsValidRule rule = IsValid rule.group rule.priority rule.actions
 abbrev pub IsValidInside : Inside → Type 0
 IsValidInside r = IsValidRule (view_of r) × (r.actions.more ≡ 0)
 
--- a queue is one of the port's
+-- the queues are the port's
 abbrev pub IsOnPort : ℕ → Action → Type 0
 IsOnPort rxq actions.Void = Unit {0}
 IsOnPort rxq (actions.Queue queue) = queue < rxq
 IsOnPort rxq actions.Drop = Unit {0}
 IsOnPort rxq (actions.Jump to) = Unit {0}
-IsOnPort rxq (actions.Rss rss) = Unit {0}
+IsOnPort rxq (actions.Rss rss) = All (λ queue. queue < rxq) rss.queues.items
 IsOnPort rxq (actions.Mark mark) = Unit {0}
 IsOnPort rxq (actions.Set edit) = Unit {0}

@@ -8,16 +8,20 @@ use Rattle.flow_actions.specs.declared.action.Action.TheVariants as actions
 use Rattle.flow_actions.specs.declared.verdict.Fate.{Fate}
 use Rattle.flow_actions.specs.declared.verdict.Fate.TheVariants as fates
 use Rattle.flow_actions.specs.declared.verdict.Verdict.{Verdict}
+use Rattle.flow_actions.specs.Spread.{hash_in, queue_in}
+use Rattle.header_edit.specs.Layers.{edit_layers}
 use Rattle.flow_rules.specs.declared.counter.Counter.{Counter}
 use Rattle.flow_rules.specs.declared.walk.Course.{Course}
 use Rattle.flow_rules.specs.declared.walk.Course.TheVariants as courses
 use Rattle.flow_rules.specs.RuleView.{RuleView}
 use Rattle.flow_rules.specs.Best.{best}
 
--- what packets see: the rules in effect, in the order in which they took effect, and whether a miss drops
+-- what packets see: the rules in effect, in the order in which they took effect, whether a miss drops, and how many Rx queues there
+-- are
 pub record Flows : Type 0 where
   pub rules : List RuleView
   pub isolated : Bool
+  pub rxq : ℕ
 
 -- What a walk carries: the frame's layers as edited so far, its mark, its RSS hash, the ids of the rules on its path, the
 -- counters that were named, one element a naming, the edits that were done, and where it goes on.
@@ -40,9 +44,10 @@ performed flows rule walked actions.Void = walked
 performed flows rule walked (actions.Queue queue) = record walked { next = courses.End (fates.Queue queue) }
 performed flows rule walked actions.Drop = record walked { next = courses.End fates.Drop }
 performed flows rule walked (actions.Jump group) = record walked { next = courses.Group group }
-performed flows rule walked (actions.Rss rss) = walked
-performed flows rule walked (actions.Mark mark) = walked
-performed flows rule walked (actions.Set edit) = walked
+performed flows rule walked (actions.Rss rss) =
+    record walked { hash = Some (hash_in rss.types walked.layers); next = courses.End (fates.Queue (queue_in rss flows.rxq walked.layers)) }
+performed flows rule walked (actions.Mark mark) = record walked { mark = Some mark }
+performed flows rule walked (actions.Set edit) = record walked { layers = edit_layers edit walked.layers; edits = walked.edits ++ edit ∷ [] }
 
 -- a frame that no rule of a group takes goes to queue 0, or is dropped in isolated mode
 abbrev pub missed : Bool → Fate

@@ -1,7 +1,9 @@
 //! The first fault of a rule, or the rule.
-ghost use Rattle.std.specs.Prelude.{◌≡◌, ◌≤◌, length, false, IfOk, None, count_by, All};
+ghost use Rattle.std.specs.Prelude.{◌≡◌, ◌≤◌, length, nat_le, false, IfOk, None, count_by, All};
+ghost use Rattle.std.specs.List.{list_any};
+ghost use Rattle.header_edit.specs.Field.{has_field};
 ghost use Rattle.flow_rules.specs.Valid.{IsGood, has_fate};
-ghost use Rattle.flow_rules.specs.Faults.{first, attr_faults, is_bad, item_fault, action_faults, first_fault, rule_of};
+ghost use Rattle.flow_rules.specs.Faults.{first, attr_faults, is_bad, is_too_wide, is_named, lacks_item, item_fault, action_faults, first_fault, rule_of};
 ghost use Rattle.std.specs.Result.{result_err};
 
 use crate::fault::{Cause, Fault};
@@ -11,13 +13,20 @@ use crate::rule::Rule;
 use crate::spec::{Attr, RuleSpec};
 use arrayvec::ArrayVec;
 use flow_actions::{Action, Actions, MAX_ACTIONS};
-use pattern_items::{ItemFault, compile};
+use packet_headers::{Edit, ItemKind};
+use pattern_items::{Item, ItemFault, compile};
 
 /// The last group.
 const MAX_GROUP: u32 = 15;
 
 /// The greatest priority number.
 const MAX_PRIORITY: u32 = 65_535;
+
+/// The greatest MAC address.
+const MAX_MAC: u64 = 0xffff_ffff_ffff;
+
+/// The greatest VLAN id.
+const MAX_VID: u16 = 4095;
 
 /// The rule of this id that was asked for, or its first fault: the attributes' first, then the pattern's, item by item,
 /// then the actions', one by one.
@@ -43,6 +52,7 @@ pub fn validate<N: Known>(
     if let Some(fault) = action_fault(
         known,
         limits.rxq,
+        spec_in.pattern.items.as_slice(),
         spec_in.attr.group,
         spec_in.actions.list.as_slice(),
     ) {
@@ -109,17 +119,87 @@ fn has_bad_value(rxq: u8, group: u32, action: &Action) -> bool
         Action::Queue(queue) => *queue >= rxq as u16,
         Action::Drop => false,
         Action::Jump(to) => *to > MAX_GROUP || *to <= group,
-        Action::Rss(_) => false,
+        Action::Rss(rss) => has_queue_over(rxq, rss.queues.as_slice()),
         Action::Mark(_) => false,
-        Action::Set(_) => false,
+        Action::Set(edit) => is_too_wide(*edit),
     }
 }
 
-/// The first fault of the actions of a rule of this group. So far no action names an action that rules share, so `known`
-/// isn't asked.
-fn action_fault<N: Known>(known: &N, rxq: u8, group: u32, list: &[Action]) -> Option<Fault>
+/// Whether one of the queues isn't there.
+fn has_queue_over(rxq: u8, queues: &[u16]) -> bool
+    ensures { result ≡ list_any (nat_le rxq) queues.now }
+{
+    queues.iter().any(|queue| *queue >= rxq as u16)
+}
+
+/// Whether the value of an edit is wider than its field.
+fn is_too_wide(edit: Edit) -> bool
+    ensures { result ≡ is_too_wide edit }
+{
+    match edit {
+        Edit::MacSrc(address) | Edit::MacDst(address) => address > MAX_MAC,
+        Edit::SetVid(vid) => vid > MAX_VID,
+        Edit::Ipv4Src(_)
+        | Edit::Ipv4Dst(_)
+        | Edit::Ipv6Src(_)
+        | Edit::Ipv6Dst(_)
+        | Edit::PortSrc(_)
+        | Edit::PortDst(_)
+        | Edit::DecTtl
+        | Edit::SetTtl(_) => false,
+    }
+}
+
+/// Whether an action edits a header that the pattern doesn't name.
+fn lacks_item(pattern: &[Item], action: &Action) -> bool
+    ensures { result ≡ lacks_item pattern.now action.now }
+{
+    let Action::Set(edit) = action else {
+        return false;
+    };
+    !is_named(*edit, pattern)
+}
+
+/// Whether an item in front of VXLAN names a header with the edit's field.
+fn is_named(edit: Edit, pattern: &[Item]) -> bool
+    ensures { result ≡ is_named edit pattern.now }
+{
+    for item in pattern {
+        if item.kind == ItemKind::Vxlan {
+            return false;
+        }
+        if has_field(edit, item.kind) {
+            return true;
+        }
+    }
+    false
+}
+
+/// Whether headers of this kind have the edit's field.
+fn has_field(edit: Edit, kind: ItemKind) -> bool
+    ensures { result ≡ has_field edit kind }
+{
+    match edit {
+        Edit::MacSrc(_) | Edit::MacDst(_) => kind == ItemKind::Eth,
+        Edit::Ipv4Src(_) | Edit::Ipv4Dst(_) => kind == ItemKind::Ipv4,
+        Edit::Ipv6Src(_) | Edit::Ipv6Dst(_) => kind == ItemKind::Ipv6,
+        Edit::PortSrc(_) | Edit::PortDst(_) => kind == ItemKind::Tcp || kind == ItemKind::Udp,
+        Edit::DecTtl | Edit::SetTtl(_) => kind == ItemKind::Ipv4 || kind == ItemKind::Ipv6,
+        Edit::SetVid(_) => kind == ItemKind::Vlan,
+    }
+}
+
+/// The first fault of the actions of a rule of this group and pattern. So far no action names an action that rules share, so
+/// `known` isn't asked.
+fn action_fault<N: Known>(
+    known: &N,
+    rxq: u8,
+    pattern: &[Item],
+    group: u32,
+    list: &[Action],
+) -> Option<Fault>
     requires { length list.now ≤ 16 }
-    ensures first { result ≡ first (action_faults rxq (N.kinds known.now) group 0 false list.now) }
+    ensures first { result ≡ first (action_faults rxq (N.kinds known.now) pattern.now group 0 false list.now) }
     ensures values { result ≡ None → All (IsGood group) list.now }
     ensures one_fate { result ≡ None → count_by has_fate list.now ≤ 1 }
 {
@@ -129,6 +209,9 @@ fn action_fault<N: Known>(known: &N, rxq: u8, group: u32, list: &[Action]) -> Op
     for action in list {
         if has_bad_value(rxq, group, action) {
             return Some(fault(Cause::ActionConf, place));
+        }
+        if lacks_item(pattern, action) {
+            return Some(fault(Cause::ItemNeeded, place));
         }
         let is_fate = action.kind().is_fate();
         if fated && is_fate {

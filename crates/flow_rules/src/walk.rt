@@ -1,25 +1,32 @@
 //! The walk of a frame over the groups of rules, for whoever keeps the rules in effect.
-ghost use Rattle.std.specs.Prelude.{◌≡◌, ◌+◌, ◌≤◌, ◌<◌, fold};
+ghost use Rattle.std.specs.Prelude.{◌≡◌, ◌+◌, ◌≤◌, ◌<◌, fold, All, Some};
 ghost use Rattle.std.specs.Option.{option_map};
 ghost use Rattle.arrayvec.specs.ArrayVec.{array_vec_len};
 ghost use Rattle.flow_rules.specs.Best as spec;
-ghost use Rattle.flow_rules.specs.Walk.{missed, fate_of, performed, visited, walked_by, verdict_of};
-ghost use Rattle.flow_rules.specs.Way.{walked_on};
+ghost use Rattle.flow_rules.specs.Walk.{Walked, missed, fate_of, performed, visited, walked_by, verdict_of};
+ghost use Rattle.flow_rules.specs.Way.{IsAt, layers_now};
+ghost use Rattle.flow_rules.specs.Valid.{IsGood};
+ghost use Rattle.flow_rules.specs.declared.walk.Course.TheVariants as courses;
+ghost use Rattle.flow_actions.specs.declared.verdict.Fate.TheVariants as fates;
+ghost use Rattle.flow_actions.specs.Spread.{hash_in, queue_in};
+ghost use Rattle.header_edit.specs.Field.{IsLawful};
+ghost use Rattle.header_edit.specs.Layers.{edit_layers};
 
 use crate::rule::Rule;
 use arrayvec::ArrayVec;
-use flow_actions::{Action, Fate, MAX_PATH, Verdict};
-use packet_headers::Key;
+use flow_actions::{Action, Fate, MAX_PATH, Rss, Verdict, rss_queue};
+use header_edit::apply_key;
+use packet_headers::{Edit, Key};
 
 /// The number of groups, so the most rules on a frame's path.
 const MAX_VISITS: u32 = MAX_PATH as u32;
 
-/// What packets see: the rules in effect, kept so that the best of a group is found, and what becomes of a frame that
-/// none takes.
+/// What packets see: the rules in effect, kept so that the best of a group is found, what becomes of a frame that none
+/// takes, and among how many Rx queues frames are spread.
 pub trait FlowsInEffect {
     ghost use Rattle.flow_rules.specs.Walk.{Flows};
 
-    /// The rules in effect, in the order in which they took effect, and whether a miss drops.
+    /// The rules in effect, in the order in which they took effect, whether a miss drops, and how many Rx queues there are.
     ghost flows: { Self → Flows };
 
     /// The rule of a group that takes a frame of these layers.
@@ -29,6 +36,10 @@ pub trait FlowsInEffect {
     /// Whether a frame that no rule takes is dropped.
     fn is_isolated(&self) -> bool
         ensures { result ≡ (flows self.now).isolated };
+
+    /// How many Rx queues there are.
+    fn rxq(&self) -> u8
+        ensures { result ≡ (flows self.now).rxq };
 }
 
 /// Where a walk goes on.
@@ -40,13 +51,14 @@ pub(crate) enum Course {
     Group(u32),
 }
 
-/// How far a walk is: what its verdict tells, and where it goes on.
+/// How far a walk is: what its verdict tells, where it goes on, and the headers of the frame where they were edited.
 #[derive(Drop)]
 pub(crate) struct Way {
     mark: Option<u32>,
     hash: Option<u32>,
     path: ArrayVec<u32, MAX_PATH>,
     next: Course,
+    edited: Option<Key>,
 }
 
 /// The verdict on a frame of these layers.
@@ -58,6 +70,7 @@ pub fn classify<F: FlowsInEffect>(flows: &F, key: &Key) -> Verdict
         hash: None,
         path: ArrayVec::new(),
         next: Course::Group(0),
+        edited: None,
     };
     go_on(flows, key, MAX_VISITS, &mut way);
     let Way {
@@ -65,6 +78,7 @@ pub fn classify<F: FlowsInEffect>(flows: &F, key: &Key) -> Verdict
         hash,
         path,
         next,
+        edited: _,
     } = way;
     Verdict {
         fate: fate(flows.is_isolated(), next),
@@ -77,7 +91,7 @@ pub fn classify<F: FlowsInEffect>(flows: &F, key: &Key) -> Verdict
 /// Visits groups until the walk ends, so many at most.
 fn go_on<F: FlowsInEffect>(flows: &F, key: &Key, more: u32, way: &mut Way)
     requires { array_vec_len way.old.path + more ≤ 16 }
-    ensures { walked_on key.now way.new ≡ walked_by more (F.flows flows.now) (walked_on key.now way.old) }
+    ensures { (walked : Walked) → IsAt key.now way.old walked → IsAt key.now way.new (walked_by more (F.flows flows.now) walked) }
 {
     if more == 0 {
         return;
@@ -92,11 +106,11 @@ fn go_on<F: FlowsInEffect>(flows: &F, key: &Key, more: u32, way: &mut Way)
 /// Visits a group: the rule that takes the frame joins the path, and its actions are performed.
 fn visit<F: FlowsInEffect>(flows: &F, key: &Key, group: u32, way: &mut Way)
     requires { array_vec_len way.old.path < 16 }
-    ensures visited { walked_on key.now way.new
-        ≡ visited (F.flows flows.now) (walked_on key.now way.old) (spec.best (F.flows flows.now).rules group key.now) }
+    ensures visited { (walked : Walked) → IsAt key.now way.old walked
+        → IsAt key.now way.new (visited (F.flows flows.now) walked (spec.best (F.flows flows.now).rules group walked.layers)) }
     ensures longer { array_vec_len way.new.path ≤ array_vec_len way.old.path + 1 }
 {
-    let Some(rule) = flows.best(group, key) else {
+    let Some(rule) = flows.best(group, current(way, key)) else {
         way.next = Course::End(miss(flows.is_isolated()));
         return;
     };
@@ -105,25 +119,68 @@ fn visit<F: FlowsInEffect>(flows: &F, key: &Key, group: u32, way: &mut Way)
     perform(flows, rule, key, way);
 }
 
-/// Performs the actions of a rule, in order. So far none needs what packets see, or the layers.
+/// The headers of the frame as they are now.
+#[inline]
+fn current<'a>(way: &'a Way, key: &'a Key) -> &'a Key
+    ensures { result.now ≡ layers_now key.now way.now.edited }
+{
+    match &way.edited {
+        Some(edited) => edited,
+        None => key,
+    }
+}
+
+/// Performs the actions of a rule, in order.
 fn perform<F: FlowsInEffect>(flows: &F, rule: &Rule, key: &Key, way: &mut Way)
-    ensures performed { walked_on key.now way.new
-        ≡ fold (performed (F.flows flows.now) rule.now) (walked_on key.now way.old) rule.now.actions }
+    ensures performed { (walked : Walked) → IsAt key.now way.old walked
+        → IsAt key.now way.new (fold (performed (F.flows flows.now) rule.now) walked rule.now.actions) }
     ensures path { way.new.path ≡ way.old.path }
 {
-    let _ = flows;
-    let _ = key;
     for action in rule.actions().list.as_slice() {
-        match action {
-            Action::Void => {}
-            Action::Queue(queue) => way.next = Course::End(Fate::Queue(*queue as u8)),
-            Action::Drop => way.next = Course::End(Fate::Drop),
-            Action::Jump(to) => way.next = Course::Group(*to),
-            Action::Rss(_) => {}
-            Action::Mark(_) => {}
-            Action::Set(_) => {}
-        }
+        perform_one(flows, rule, key, action, way);
     }
+}
+
+/// Performs an action of a rule.
+#[inline]
+fn perform_one<F: FlowsInEffect>(flows: &F, rule: &Rule, key: &Key, action: &Action, way: &mut Way)
+    requires { IsGood rule.now.group action.now }
+    ensures performed { (walked : Walked) → IsAt key.now way.old walked
+        → IsAt key.now way.new (performed (F.flows flows.now) rule.now walked action.now) }
+    ensures path { way.new.path ≡ way.old.path }
+{
+    match action {
+        Action::Void => {}
+        Action::Queue(queue) => way.next = Course::End(Fate::Queue(*queue as u8)),
+        Action::Rss(rss) => spread(flows.rxq(), rss, key, way),
+        Action::Drop => way.next = Course::End(Fate::Drop),
+        Action::Jump(to) => way.next = Course::Group(*to),
+        Action::Mark(mark) => way.mark = Some(*mark),
+        Action::Set(edit) => change(*edit, key, way),
+    }
+}
+
+/// Ends the walk in the queue that the frame's hash chooses.
+fn spread(rxq: u8, rss: &Rss, key: &Key, way: &mut Way)
+    requires { All (λ queue. queue < 256) rss.now.queues.items }
+    ensures { way.new ≡ record way.old {
+      hash = Some (hash_in rss.now.types (layers_now key.now way.old.edited));
+      next = courses.End (fates.Queue (queue_in rss.now rxq (layers_now key.now way.old.edited)));
+    } }
+{
+    let (hash, queue) = rss_queue(rss, rxq, current(way, key));
+    way.hash = Some(hash);
+    way.next = Course::End(Fate::Queue(queue));
+}
+
+/// Edits the frame's headers, in a copy of them.
+fn change(edit: Edit, key: &Key, way: &mut Way)
+    requires { IsLawful edit }
+    ensures { way.new ≡ record way.old { edited = Some (edit_layers edit (layers_now key.now way.old.edited)) } }
+{
+    let mut edited = *current(way, key);
+    apply_key(&mut edited, edit);
+    way.edited = Some(edited);
 }
 
 /// What becomes of a frame that no rule takes.
