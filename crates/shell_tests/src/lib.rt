@@ -8,6 +8,8 @@
 #[cfg(test)]
 mod endings;
 #[cfg(test)]
+mod marks;
+#[cfg(test)]
 mod patterns;
 #[cfg(test)]
 mod phases;

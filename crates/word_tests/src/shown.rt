@@ -1,6 +1,6 @@
 //! What lines and calls say, as short texts for the tests.
 use adapter::{BadKind, Op};
-use flow_actions::{Action, Actions};
+use flow_actions::{Action, Actions, Rss};
 use flow_grammar::{Line, read_line};
 use flow_rules::{Attr, RuleSpec};
 use packet_headers::ItemKind;
@@ -52,12 +52,28 @@ fn show_action(out: &mut String, action: &Action) -> Result<(), AllocError> {
             let queue = *queue;
             write!(out, " {queue}")
         }
+        Action::Rss(rss) => show_rss(out, rss),
         Action::Drop => out.push_str(" drop"),
         Action::Jump(group) => {
             let group = *group;
             write!(out, " jump {group}")
         }
+        Action::Mark(mark) => {
+            let mark = *mark;
+            write!(out, " mark {mark}")
+        }
+        Action::Set(edit) => write!(out, " {edit:?}"),
     }
+}
+
+/// The types as a number, and the queues.
+fn show_rss(out: &mut String, rss: &Rss) -> Result<(), AllocError> {
+    let types = rss.types;
+    write!(out, " rss {types} of")?;
+    for queue in rss.queues.as_slice() {
+        write!(out, " {queue}")?;
+    }
+    Ok(())
 }
 
 /// The actions, of which a queue is its number, and how many stood behind the first 16.
@@ -195,6 +211,14 @@ pub(crate) fn text_of(line: &[u8]) -> &str {
         Ok(text) => text,
         Err(_) => "bytes that are no text",
     }
+}
+
+/// What a line says that creates a rule for all frames with these actions.
+pub(crate) fn shown_actions(alloc: Global, actions: &[u8]) -> Result<String, AllocError> {
+    let mut line = Vec::new(alloc);
+    line.extend_from_slice(b"flow create 0 ingress pattern end actions ")?;
+    line.extend_from_slice(actions)?;
+    shown(alloc, &line)
 }
 
 /// Whether each line says what stands beside it.
