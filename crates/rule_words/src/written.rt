@@ -27,7 +27,7 @@ pub fn written_items_are_read()
         → (items : List WrittenItem) × (words ≡ words_up_to (codes "end") item_words items ++ rest) × (made_by pattern_with no_items items ≡ Some pattern) }
 {}
 
-/// The same of actions, each a word with values up to its `/`.
+/// The same of actions, each a word with values and lists up to its `/`.
 pub fn written_actions_are_read()
     ensures read { (actions : List WrittenAction) (list : Actions) (rest : List (List ℕ)) → made_by actions_with no_actions actions ≡ Some list
         → actions_of (words_up_to (codes "end") action_words actions ++ rest) ≡ Some (list, rest) }
