@@ -10,6 +10,8 @@ mod changes;
 #[cfg(test)]
 mod edit_tests;
 #[cfg(test)]
+mod hash_tests;
+#[cfg(test)]
 mod header_tests;
 #[cfg(test)]
 mod pattern_tests;
