@@ -1,8 +1,8 @@
 //! Rules as asked for, and their first faults.
 use super::*;
 use arrayvec::ArrayVec;
-use flow_actions::{Action, ActionKind, Actions};
-use packet_headers::ItemKind;
+use flow_actions::{Action, ActionKind, Actions, Rss};
+use packet_headers::{Edit, ItemKind};
 use pattern_items::{Fields, Item, Pattern};
 use std::process::Abort;
 
@@ -218,5 +218,150 @@ fn of_two_neighbouring_faults_the_first_is_the_answer(rt: HostRuntime) {
     ];
     for (pair, cause, at) in rows {
         expect_fault(&rt, pair, cause, at);
+    }
+}
+
+/// An action, and the kinds of the items of its rule.
+type Asked = (&'static [ItemKind], Trial);
+
+/// An action behind a mark.
+#[derive(Clone, Copy, Debug)]
+enum Trial {
+    Set(Edit),
+    /// RSS with one queue.
+    Spread(u16),
+}
+
+/// The items of an IPv6 frame in VXLAN over IPv4.
+const TUNNEL: [ItemKind; 6] = [
+    ItemKind::Eth,
+    ItemKind::Ipv4,
+    ItemKind::Udp,
+    ItemKind::Vxlan,
+    ItemKind::Eth,
+    ItemKind::Ipv6,
+];
+
+fn tried(trial: Trial) -> Action {
+    match trial {
+        Trial::Set(edit) => Action::Set(edit),
+        Trial::Spread(queue) => {
+            let mut queues = ArrayVec::new();
+            queues.push(queue);
+            Action::Rss(Rss { queues, types: 63 })
+        }
+    }
+}
+
+fn rule_of(rt: &impl Abort, asked: Asked) -> RuleSpec {
+    let (kinds, trial) = asked;
+    let mut items = ArrayVec::new();
+    for kind in kinds {
+        assert!(rt; !items.is_full());
+        items.push(Item {
+            kind: *kind,
+            given: None,
+            last: None,
+            mask: None,
+        });
+    }
+    let mut list = ArrayVec::new();
+    list.push(Action::Mark(7));
+    list.push(tried(trial));
+    let mut spec = rule((Trouble::Group, Trouble::Group));
+    spec.attr.group = 0;
+    spec.pattern = Pattern { items, more: 0 };
+    spec.actions = Actions { list, more: 0 };
+    spec
+}
+
+fn fault_of(rt: &impl Abort, asked: Asked) -> Option<Cause> {
+    match validate(&rule_of(rt, asked), &LIMITS, &Nothing, 7) {
+        Ok(_) => None,
+        Err(fault) => {
+            assert_eq!(rt; fault.at, 1);
+            Some(fault.cause)
+        }
+    }
+}
+
+static EDITS: [(&str, Asked, Option<Cause>); 13] = [
+    (
+        "TTL on Ethernet alone",
+        (&[ItemKind::Eth], Trial::Set(Edit::SetTtl(9))),
+        Some(Cause::ItemNeeded),
+    ),
+    (
+        "an IPv6 source behind VXLAN",
+        (&TUNNEL, Trial::Set(Edit::Ipv6Src(1))),
+        Some(Cause::ItemNeeded),
+    ),
+    (
+        "an IPv4 source in front of VXLAN",
+        (&TUNNEL, Trial::Set(Edit::Ipv4Src(1))),
+        None,
+    ),
+    (
+        "a port in front of VXLAN",
+        (&TUNNEL, Trial::Set(Edit::PortDst(1))),
+        None,
+    ),
+    (
+        "a port without TCP and UDP",
+        (
+            &[ItemKind::Eth, ItemKind::Ipv4],
+            Trial::Set(Edit::PortDst(1)),
+        ),
+        Some(Cause::ItemNeeded),
+    ),
+    (
+        "TTL of IPv6",
+        (&[ItemKind::Ipv6], Trial::Set(Edit::DecTtl)),
+        None,
+    ),
+    (
+        "VLAN id 4,095",
+        (&[ItemKind::Vlan], Trial::Set(Edit::SetVid(4095))),
+        None,
+    ),
+    (
+        "VLAN id 4,096",
+        (&[ItemKind::Vlan], Trial::Set(Edit::SetVid(4096))),
+        Some(Cause::ActionConf),
+    ),
+    (
+        "VLAN id 4,096 without a tag",
+        (&[ItemKind::Eth], Trial::Set(Edit::SetVid(4096))),
+        Some(Cause::ActionConf),
+    ),
+    (
+        "the greatest MAC address",
+        (&[ItemKind::Eth], Trial::Set(Edit::MacSrc(0xffff_ffff_ffff))),
+        None,
+    ),
+    (
+        "a MAC address of 2^48",
+        (
+            &[ItemKind::Eth],
+            Trial::Set(Edit::MacDst(0x1_0000_0000_0000)),
+        ),
+        Some(Cause::ActionConf),
+    ),
+    (
+        "RSS to queue 1 of 2",
+        (&[ItemKind::Eth], Trial::Spread(1)),
+        None,
+    ),
+    (
+        "RSS to queue 2 of 2",
+        (&[ItemKind::Eth], Trial::Spread(2)),
+        Some(Cause::ActionConf),
+    ),
+];
+
+#[test]
+fn edits_need_their_item_and_values_their_range(rt: HostRuntime) {
+    for (name, asked, cause) in &EDITS {
+        assert!(rt; fault_of(&rt, *asked) == *cause, "{name}");
     }
 }
