@@ -14,11 +14,18 @@
 //! (`specs/Faults`). The faults of the attributes come first, then those of the pattern, item by item from the left,
 //! then those of the actions, action by action. The code stops at the first one and makes no list.
 //!
+//! An action is judged in this order: its value is out of its range; it edits a header that no item in front of VXLAN names; it
+//! is a second fate.
+//!
 //! `specs/Best` and `specs/Walk` have what rules do to frames. A frame begins in group 0. Of the rules of a group that
 //! match it, that with the lowest priority number takes it, and among equals the one that took effect earlier. Its actions
 //! are performed in order, each on one record of what the walk carries, and its fate ends the walk or sends the frame on to
 //! a later group. So a walk meets at most 16 groups ([`more_visits_change_nothing`]). [`classify`] is the walk in code, for
 //! all who keep the rules in effect in their own ways and find the best of a group ([`FlowsInEffect`]).
+//!
+//! A mark stays until another takes its place. An edit changes the layers for all that comes behind it: a hash, and the match
+//! in a later group. No header is found anew. The code walks over the key as it came, and makes a copy of its own only where an
+//! edit stands.
 //!
 //! The model: a rule is plain data, with the test that its pattern makes. Nothing here takes memory.
 #![tactic(auto)]

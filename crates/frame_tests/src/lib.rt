@@ -1,4 +1,4 @@
-//! Frames in tables and generated ones: their layers, which patterns match them, and their edits.
+//! Frames in tables and generated ones: their layers, which patterns match them, their edits and their hashes.
 //!
 //! What a row says was read off the bytes, the guide or a standard, and beside the compiled pattern a plain one answers.
 //! These tests stand in a crate of their own because a crate is proved twice where it has tests, once with them and once
