@@ -29,5 +29,5 @@ unfolding chosen
 chosen-below [] rxq hash one all =
     let at : hash % rxq < rxq = mod-lt hash one in
     subst (λ n. n < rxq) (sym (ap (λ n. slice_index (range_with_len 0 rxq) (hash % n)) (length-range_with_len 0 rxq)
-        ∙ (get_or-range_with_len 0 rxq (hash % rxq) 0 at ∙ zero-add (hash % rxq)))) at
+    ∙ (get_or-range_with_len 0 rxq (hash % rxq) 0 at ∙ zero-add (hash % rxq)))) at
 chosen-below (queue ∷ queues) rxq hash one all = all (hash % length (queue ∷ queues)) 0 (mod-lt hash (omega arith))

@@ -1,5 +1,5 @@
 //! Generated frames of all kinds of headers, on ways of all lengths, through an adapter's history and back.
-use adapter::{Adapter, At, Call, Caller, EntryView, Shared, Op, Parcel};
+use adapter::{Adapter, At, Call, Caller, EntryView, Op, Parcel, Shared};
 use arrayvec::ArrayVec;
 use flow_actions::{Action, Actions, Fate, Verdict};
 use flow_rules::{Attr, Limits, RuleSpec};
