@@ -4,13 +4,13 @@
 ghost use Rattle.std.specs.Prelude.{◌<◌, All};
 ghost use Rattle.std.specs.Bool.{OnTrue};
 
-use crate::frames::{
-    DOUBLE_TAGGED_UDP_FRAME, IPV6_FRAME, RSS_CHECK_FRAME, RUNT_FRAME, UDP_FRAME, VXLAN_FRAME,
-};
 use arrayvec::ArrayVec;
 use flow_actions::{ALL_RSS_TYPES, Rss, rss_queue, toeplitz};
 use packet_headers::parse;
 use std::process::Abort;
+use test_frames::{
+    DOUBLE_TAGGED_UDP_FRAME, IPV6_FRAME, RSS_CHECK_FRAME, RUNT_FRAME, UDP_FRAME, VXLAN_FRAME,
+};
 
 /// Addresses of IPv4 with ports, the hash of the addresses, and that of all.
 static IPV4_ROWS: [([u8; 12], u32, u32); 5] = [
