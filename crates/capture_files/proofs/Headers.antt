@@ -1,10 +1,10 @@
 -- The headers of a file and of a record are told by their own bytes, whatever comes behind.
-use Rattle.std.proofs.Common.{◌≡◌, ℕ, ◌+◌, ◌≤◌, ◌<◌, List, ◌++◌, length, drop, Option, None, Some, Ok, Err, refl, sym, ap, ◌∙◌, arith, eqb, cond, length-append, length-drop}
+use Rattle.std.proofs.Common.{◌≡◌, ℕ, ◌+◌, ◌≤◌, ◌<◌, List, ◌++◌, length, drop, Option, None, Some, Ok, Err, refl, sym, ap, ◌∙◌, arith, length-append, length-drop}
 use Rattle.std.proofs.lemmas.Bool.{cond-true, cond-false, le-ltb, lt-ltb}
 use lib.Seq.{drop-append-le, drop_at}
-use Rattle.byteorder.specs.Numbers.{little_from-append}
+use Rattle.byteorder.specs.Numbers.{little_from-append, big_from-append}
 use Rattle.capture_files.specs.declared.header.Format.{Format}
-use Rattle.capture_files.specs.declared.header.Format.TheVariants.{LittleMicros}
+use Rattle.capture_files.specs.declared.header.Format.TheVariants.{LittleMicros, LittleNanos, BigMicros, BigNanos}
 use Rattle.capture_files.specs.declared.record.Progress.{Progress}
 use Rattle.capture_files.specs.declared.stop.Stop.{Stop}
 use Rattle.capture_files.specs.declared.stop.Stop.TheVariants.{Bad}
@@ -16,6 +16,9 @@ use Rattle.capture_files.specs.Capture.{capture_from, records_of, stopped, then_
 number_of-front : (format : Format) (n : ℕ) (xs ys : List ℕ) → n ≤ length xs → number_of format n (xs ++ ys) ≡ number_of format n xs
 unfolding number_of
 number_of-front LittleMicros n xs ys h = little_from-append n xs ys h
+number_of-front LittleNanos n xs ys h = little_from-append n xs ys h
+number_of-front BigMicros n xs ys h = big_from-append n xs ys h
+number_of-front BigNanos n xs ys h = big_from-append n xs ys h
 
 number_of-drop : (format : Format) (n k : ℕ) (xs ys : List ℕ) → k + n ≤ length xs → number_of format n (drop k (xs ++ ys)) ≡ number_of format n (drop k xs)
 number_of-drop format n k xs ys h =
@@ -39,9 +42,11 @@ header_behind-front (Some format) xs ys h =
 
 header_of-front : (xs ys : List ℕ) → length xs ≡ 24 → header_of (xs ++ ys) ≡ header_of xs
 header_of-front xs ys h =
-    let magic = number_of-front LittleMicros 4 xs ys (omega arith) in
+    let little = number_of-front LittleMicros 4 xs ys (omega arith) in
+    let big = number_of-front BigMicros 4 xs ys (omega arith) in
+    let same : format_of (xs ++ ys) ≡ format_of xs = cc in
     cond-false _ _ _ (le-ltb (length (xs ++ ys)) 24 (omega (arith, length-append xs ys)))
-    ∙ ap (λ n. header_behind (cond (eqb n 0xa1b2c3d4) (Some LittleMicros) None) (xs ++ ys)) magic
+    ∙ ap (λ o. header_behind o (xs ++ ys)) same
     ∙ header_behind-front (format_of xs) xs ys h
     ∙ sym (cond-false _ _ _ (le-ltb (length xs) 24 (omega arith)))
 

@@ -1,8 +1,8 @@
 -- The header of a capture file (pcap 2.4).
-use Rattle.std.specs.Prelude.{ℕ, ◌%◌, Bool, false, not, ◌&&◌, ◌==◌, nat_lt, if◌then◌else◌, List, length, drop, Option, Some, None, Result, Ok, Err}
-use Rattle.byteorder.specs.Endian.{little_number}
+use Rattle.std.specs.Prelude.{ℕ, ◌%◌, Bool, true, false, not, ◌&&◌, ◌==◌, nat_lt, if◌then◌else◌, List, length, drop, Option, Some, None, Result, Ok, Err}
+use Rattle.byteorder.specs.Endian.{little_number, big_number}
 use Rattle.capture_files.specs.declared.header.Format.{Format}
-use Rattle.capture_files.specs.declared.header.Format.TheVariants.{LittleMicros}
+use Rattle.capture_files.specs.declared.header.Format.TheVariants.{LittleMicros, LittleNanos, BigMicros, BigNanos}
 use Rattle.capture_files.specs.declared.stop.Stop.{Stop}
 use Rattle.capture_files.specs.declared.stop.Stop.TheVariants.{Bad}
 use Rattle.capture_files.specs.declared.stop.CaptureKind.TheVariants.{HeaderCut, Magic, Version, LinkType}
@@ -10,14 +10,28 @@ use Rattle.capture_files.specs.declared.stop.CaptureKind.TheVariants.{HeaderCut,
 -- the number in the first n bytes
 unfoldable pub number_of : Format → ℕ → List ℕ → ℕ
 number_of LittleMicros n bytes = little_number n bytes
+number_of LittleNanos n bytes = little_number n bytes
+number_of BigMicros n bytes = big_number n bytes
+number_of BigNanos n bytes = big_number n bytes
 
 -- whether a stamp's part counts nanoseconds
 abbrev pub is_nano : Format → Bool
 is_nano LittleMicros = false
+is_nano LittleNanos = true
+is_nano BigMicros = false
+is_nano BigNanos = true
 
--- the form that the magic tells, the first four bytes
+-- the form that the magic tells, which is the number in the first four bytes, the lowest first or the highest first
+abbrev pub format_with : ℕ → ℕ → Option Format
+format_with little big =
+    if little == 0xa1b2c3d4 then Some LittleMicros
+    else if little == 0xa1b23c4d then Some LittleNanos
+    else if big == 0xa1b2c3d4 then Some BigMicros
+    else if big == 0xa1b23c4d then Some BigNanos
+    else None
+
 abbrev pub format_of : List ℕ → Option Format
-format_of bytes = if number_of LittleMicros 4 bytes == 0xa1b2c3d4 then Some LittleMicros else None
+format_of bytes = format_with (number_of LittleMicros 4 bytes) (number_of BigMicros 4 bytes)
 
 -- major version 2 in the two bytes from 4, minor version 4 in those from 6
 abbrev pub is_version_2_4 : Format → List ℕ → Bool

@@ -79,7 +79,7 @@ NextCause before now answers.ReadFault = Rose before now
 -- each frame is counted, and neither frames nor their lengths pass their limits
 pub record CountsFrame (old new : ReaderState) (len : ℕ) : Type 0 where
   pub counted : new.progress.frames ≡ old.progress.frames + 1
-  pub few : new.progress.frames ≤ 65536
+  pub few : new.progress.frames ≤ 1048576
   pub short : len ≤ 262144
 
 abbrev pub Counts : ReaderState → ReaderState → Next → Type 0

@@ -34,12 +34,12 @@ frame_of header captured = record {
   wire_len = header.wire_len;
 }
 
--- A record of more than 262,144 captured bytes is bad. One behind 65,536 frames, or with which the captured bytes pass
--- 16,777,216 together, makes the capture too large.
+-- A record of more than 262,144 captured bytes is bad. One behind 1,048,576 frames, or with which the captured bytes pass
+-- 1,073,741,824 together, makes the capture too large.
 abbrev pub refusal_of : Progress → ℕ → Option Stop
 refusal_of progress captured_len =
     if nat_lt 262144 captured_len then Some (Bad progress.place RecordLength)
-    else if progress.frames == 65536 || nat_lt 16777216 (progress.captured + captured_len) then Some (Large progress.place)
+    else if progress.frames == 1048576 || nat_lt 1073741824 (progress.captured + captured_len) then Some (Large progress.place)
     else None
 
 -- the frame of a record with that header and the bytes behind it, where it isn't refused or cut
@@ -67,6 +67,6 @@ behind progress captured_len = record {
 
 -- what a reader has come to while it stays within the limits
 pub record IsWithinLimits (progress : Progress) : Type 0 where
-  pub few_frames : progress.frames ≤ 65536
-  pub few_bytes : progress.captured ≤ 16777216
+  pub few_frames : progress.frames ≤ 1048576
+  pub few_bytes : progress.captured ≤ 1073741824
   pub near : progress.place ≤ 24 + 16 * progress.frames + progress.captured

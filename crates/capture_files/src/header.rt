@@ -3,7 +3,7 @@ ghost use Rattle.std.specs.Prelude.{◌≡◌, ◌≤◌, length};
 ghost use Rattle.capture_files.specs.Header.{number_of, is_nano, format_of, header_of};
 
 use crate::stop::{CaptureKind, Stop};
-use byteorder::{ByteOrder, LittleEndian};
+use byteorder::{BigEndian, ByteOrder, LittleEndian};
 
 /// The bytes of a file header: magic (4), major version (2), minor version (2), two fields that are ignored (4 and 4),
 /// snap length (4, ignored), link type (4).
@@ -11,6 +11,9 @@ pub const HEADER_LEN: usize = 24;
 
 /// The magic of a file whose stamps count microseconds, read in the file's own order.
 const MICROS: u32 = 0xa1b2_c3d4;
+
+/// The magic of a file whose stamps count nanoseconds, read in the file's own order.
+const NANOS: u32 = 0xa1b2_3c4d;
 
 /// The link type of Ethernet, in the low 16 bits of its field.
 const ETHERNET: u32 = 1;
@@ -20,6 +23,12 @@ const ETHERNET: u32 = 1;
 pub enum Format {
     /// The lowest byte first, and microseconds.
     LittleMicros,
+    /// The lowest byte first, and nanoseconds.
+    LittleNanos,
+    /// The highest byte first, and microseconds.
+    BigMicros,
+    /// The highest byte first, and nanoseconds.
+    BigNanos,
 }
 
 impl Format {
@@ -28,30 +37,44 @@ impl Format {
         requires { 4 ≤ length bytes.now }
         ensures { result ≡ format_of bytes.now }
     {
-        if Format::LittleMicros.read_u32(bytes) == MICROS {
-            Some(Format::LittleMicros)
-        } else {
-            None
+        let little = Format::LittleMicros.read_u32(bytes);
+        if little == MICROS {
+            return Some(Format::LittleMicros);
         }
+        if little == NANOS {
+            return Some(Format::LittleNanos);
+        }
+        let big = Format::BigMicros.read_u32(bytes);
+        if big == MICROS {
+            return Some(Format::BigMicros);
+        }
+        if big == NANOS {
+            return Some(Format::BigNanos);
+        }
+        None
     }
 
     /// The number in the first two bytes.
+    #[tactic(auto, unfolding(crate::specs::Header::number_of))]
     fn read_u16(self, bytes: &[u8]) -> u16
         requires { 2 ≤ length bytes.now }
         ensures { result ≡ number_of self 2 bytes.now }
     {
         match self {
-            Format::LittleMicros => LittleEndian::read_u16(bytes),
+            Format::LittleMicros | Format::LittleNanos => LittleEndian::read_u16(bytes),
+            Format::BigMicros | Format::BigNanos => BigEndian::read_u16(bytes),
         }
     }
 
     /// The number in the first four bytes.
+    #[tactic(auto, unfolding(crate::specs::Header::number_of))]
     pub fn read_u32(self, bytes: &[u8]) -> u32
         requires { 4 ≤ length bytes.now }
         ensures { result ≡ number_of self 4 bytes.now }
     {
         match self {
-            Format::LittleMicros => LittleEndian::read_u32(bytes),
+            Format::LittleMicros | Format::LittleNanos => LittleEndian::read_u32(bytes),
+            Format::BigMicros | Format::BigNanos => BigEndian::read_u32(bytes),
         }
     }
 
@@ -60,7 +83,8 @@ impl Format {
         ensures { result ≡ is_nano self }
     {
         match self {
-            Format::LittleMicros => false,
+            Format::LittleMicros | Format::BigMicros => false,
+            Format::LittleNanos | Format::BigNanos => true,
         }
     }
 }

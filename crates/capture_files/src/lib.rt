@@ -1,4 +1,4 @@
-//! Captures: pcap files of format 2.4, read one record a call.
+//! Captures: pcap files of format 2.4, read and written one record a call.
 //!
 //! A capture is a file header of 24 bytes and then records, each of a header of 16 bytes and the captured bytes of one
 //! frame. Its model is a list of frames and one stop: why no further frame comes, and where. `specs/Capture.antt` says it
@@ -18,12 +18,17 @@
 //! answer but a frame ends the reader: nothing is read behind it. Where the source fails in the midst of a record, the
 //! frames that were given are those whose last byte came before; the bytes of the record are lost.
 //!
-//! A file is refused where its magic isn't one that is read (so far little-endian with microseconds: another form is one
-//! case more of `Format`, in `src/header.rt` and `specs/Header.antt`), where its version isn't 2.4 or its link type not
-//! Ethernet. Snap length, stamps and wire lengths aren't checked. A capture has limits (`src/record.rt`); past them it is
+//! The magic tells the form of the file: whether its numbers have the lowest or the highest byte first, and whether stamps
+//! count microseconds or nanoseconds. A file is refused where its magic is none of these four, where its version isn't 2.4,
+//! or where the low 16 bits of its link type aren't Ethernet; the high 16 bits hold what some writers say of frame check
+//! sequences. Snap length, stamps and wire lengths aren't checked. A capture has limits (`src/record.rt`); past them it is
 //! too large, at the place of the record that passes them.
 //!
-//! Not done here: captures are not written, not compressed, and not read backwards or from the middle.
+//! What is written is little-endian with microseconds, byte for byte as `specs/Writing.antt` says, and is read as the frames
+//! that were written (`written_captures_are_read`). Who writes many frames prints them on one page, so that the sink is
+//! called once for a page (`print_header`, `print_frame`); `write_header` and `write_frame` end their page themselves.
+//!
+//! Not done here: pcapng, compressed files, and reading backwards or from the middle.
 #![tactic(auto)]
 
 mod fill;
@@ -33,8 +38,12 @@ mod parts;
 mod reader;
 mod record;
 mod stop;
+mod writing;
 
 pub use front::frames_of_a_front_come_first;
 pub use reader::{CaptureReader, Next};
 pub use record::{MAX_FRAME_LEN, Stamp};
 pub use stop::CaptureKind;
+pub use writing::{
+    print_frame, print_header, write_frame, write_header, written_captures_are_read,
+};

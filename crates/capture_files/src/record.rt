@@ -12,10 +12,10 @@ pub const RECORD_HEADER_LEN: usize = 16;
 pub const MAX_FRAME_LEN: usize = 262_144;
 
 /// The most frames of a capture.
-pub const MAX_FRAMES: u32 = 65_536;
+pub const MAX_FRAMES: u32 = 1_048_576;
 
 /// The most captured bytes of all frames of a capture together.
-pub const MAX_CAPTURED: u32 = 16_777_216;
+pub const MAX_CAPTURED: u32 = 1_073_741_824;
 
 /// When a frame was captured: the seconds, and the part of a second in microseconds, or nanoseconds where `nano` is set.
 #[derive(Clone, Copy, Debug, PartialEq, Eq)]

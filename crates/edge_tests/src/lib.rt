@@ -16,3 +16,5 @@ mod pages;
 mod real_files;
 #[cfg(test)]
 mod shelves;
+#[cfg(test)]
+mod written_captures;

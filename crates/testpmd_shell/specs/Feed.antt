@@ -41,10 +41,10 @@ abbrev pub ReadsOn : Feed → SlotState → List ℕ → List Frame → Option �
 ReadsOn feed slot content frames None = HasRead feed slot content frames
 ReadsOn feed slot content frames (Some len) = (frame : Frame) × (frame.bytes ≡ take len feed.buffer.items) × HasRead feed slot content (frames ++ frame ∷ [])
 
--- A frame was counted, of which a capture has at most 65,536; or none was, and the capture has ended.
+-- A frame was counted, of which a capture has at most 1,048,576; or none was, and the capture has ended.
 abbrev pub CountsOn : Feed → Feed → Option ℕ → Type 0
 CountsOn old new None = (new.taken ≡ old.taken) × (new.reader.ended ≡ true)
-CountsOn old new (Some len) = (new.taken ≡ old.taken + 1) × (new.taken ≤ 65536) × (new.reader.ended ≡ false)
+CountsOn old new (Some len) = (new.taken ≡ old.taken + 1) × (new.taken ≤ 1048576) × (new.reader.ended ≡ false)
 
 -- the count of failed reads rose where the capture ended by one
 abbrev pub IsFaultOf : Ending → ℕ → ℕ → Type 0

@@ -5,8 +5,8 @@ abbrev pub invariant-loop-count : goal.invariant-loop-count
 invariant-loop-count g l = record {
   running : l.reader.ended ≡ false;
   counted : l.count ≡ l.reader.progress.frames;
-  few : l.count ≤ 65536;
+  few : l.count ≤ 1048576;
 }
 
 abbrev pub decreases-loop-count : goal.decreases-loop-count
-decreases-loop-count g l = 65536 - l.reader.progress.frames
+decreases-loop-count g l = 1048576 - l.reader.progress.frames

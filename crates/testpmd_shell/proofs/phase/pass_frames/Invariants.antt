@@ -22,4 +22,4 @@ invariant-loop-left g l =
     }
 
 abbrev pub decreases-loop-left : goal.decreases-loop-left
-decreases-loop-left g l = 65536 - l.feed.reader.progress.frames
+decreases-loop-left g l = 1048576 - l.feed.reader.progress.frames
