@@ -1,4 +1,3 @@
-pub mod Prefixes
 pub mod Reading
 pub mod Passing
 pub mod PartsRun

@@ -10,6 +10,7 @@ use Rattle.adapter.specs.Seen.{Seen}
 use Rattle.flow_rules.specs.declared.limits.Limits.{Limits}
 use Rattle.flow_grammar.specs.declared.part.Part.{Part}
 use Rattle.flow_grammar.specs.Program.{program_of}
+use Rattle.whole_history.specs.Reach.{has_phase}
 use Rattle.history_text.specs.declared.ending.Ending.{Ending}
 use Rattle.history_text.specs.declared.ending.Ending.TheVariants as endings
 use Rattle.history_text.specs.Text.{text_of}
@@ -20,7 +21,7 @@ use Rattle.testpmd_shell.specs.Feed.{IsFaultOf}
 use Rattle.testpmd_shell.specs.Run.{Edges, early_faults}
 use Rattle.testpmd_shell.specs.Found.{Found, Supply, found_by, found_in, supply_in, limits_of, is_over, ending_of, status_at, due_status}
 use Rattle.testpmd_shell.specs.Fetch.{Runs, HasRun, IsTold}
-use Rattle.testpmd_shell.specs.Session.{IsSerial, IsEndOf, Wrote, IsStatusOf, Tells, Ends, IsWhy, SaysBy, CompletesBy, IsTooLargeBy}
+use Rattle.testpmd_shell.specs.Session.{IsSerial, IsEndOf, Wrote, IsStatusOf, Tells, Ends, IsWhy, SaysBy, CompletesBy, IsReadBy, IsTooLargeBy}
 
 IfSome-weaker : {X : Type 0} (o : Option X) (P Q : X → Type 0) → ((x : X) → P x → Q x) → IfSome o P → IfSome o Q
 IfSome-weaker None P Q weaker p = tt
@@ -129,12 +130,27 @@ SaysBy-weaker P Q weaker (Some given) before after answer (inl ends) = inl (reco
 })
 SaysBy-weaker P Q weaker (Some given) before after answer (inr stops) = inr stops
 
--- ---- what follows
+-- ---- no memory to tell what the words give
 
--- the words give options
-pub not-usage : (P : Limits → List Part → List Frame → List Entry → Type 0) (given : Given) (before after : Edges) → SaysBy P (Some given) before after status.Usage → ⊥
-not-usage P given before after (inl ends) = ends.cause
-not-usage P given before after (inr stops) = stops.why
+IfSome-always : {X : Type 0} (o : Option X) (P : X → Type 0) → ((x : X) → P x) → IfSome o P
+IfSome-always None P p = tt
+IfSome-always (Some x) P p = p x
+
+pub SaysBy-no_memory : (P : Limits → List Part → List Frame → List Entry → Type 0) (given : Option Given) (edges : Edges) → SaysBy P given edges edges status.NoMemory
+SaysBy-no_memory P None edges = (inr refl, refl)
+SaysBy-no_memory P (Some given) edges = inr (record {
+  unwritten = refl;
+  calm = refl;
+  why = refl;
+  sized = IfSome-always (edges.shelf.contents given.script) (λ script. is_over script ≡ true → edges.shelf.capture ≡ edges.shelf.capture) (λ script over. refl);
+})
+
+pub IsReadBy-unread : (given : Option Given) (state : ShelfState) → IsReadBy given state state
+IsReadBy-unread None state = tt
+IsReadBy-unread (Some given) state =
+    IfSome-always (state.contents given.script) (λ script. has_phase (program_of script) ≡ false → state.capture.faults ≡ state.capture.faults) (λ script none. refl)
+
+-- ---- what follows
 
 -- what is found has the script that is told
 script-found : (given : Given) (s t : ShelfState) (P : List ℕ → Type 0) → IfSome (s.contents given.script) P → IfSome (found_in given s t) (λ found. P found.script)

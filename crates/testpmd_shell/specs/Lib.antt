@@ -1,3 +1,5 @@
+pub mod Numbers
+pub mod Command
 pub mod Options
 pub mod Status
 pub mod Run

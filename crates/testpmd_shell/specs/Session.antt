@@ -111,9 +111,9 @@ pub record Stops (given : Given) (before after : Edges) (answer : Status) : Type
 
 -- ---- all answers
 
--- where the words give no options nothing is opened, read or written
+-- where the words give no options, which takes memory to tell, nothing is opened, read or written
 abbrev pub SaysBy : (Limits → List Part → List Frame → List Entry → Type 0) → Option Given → Edges → Edges → Status → Type 0
-SaysBy histories None before after answer = (answer ≡ status.Usage) × (after ≡ before)
+SaysBy histories None before after answer = ((answer ≡ status.Usage) ⊎ (answer ≡ status.NoMemory)) × (after ≡ before)
 SaysBy histories (Some given) before after answer = Ends histories given before after answer ⊎ Stops given before after answer
 
 -- what an answer says of a run

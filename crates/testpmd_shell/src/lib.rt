@@ -30,8 +30,10 @@
 #![tactic(auto)]
 
 mod ask;
+mod command;
 mod feed;
 mod fetch;
+mod numbers;
 mod options;
 mod parts;
 mod phase;

@@ -1,4 +1,4 @@
-//! The options that the program's words give, read by hand.
+//! The options that the program's words give.
 /// The names and numbers that the words give.
 #[derive(Clone, Copy)]
 pub(crate) struct Options<'a> {
@@ -8,6 +8,8 @@ pub(crate) struct Options<'a> {
     pub(crate) capture: Option<&'a str>,
     /// The number of Rx queues.
     pub(crate) rxq: u8,
+    /// The number of workers. Each session takes the serial order, whatever it is.
+    pub(crate) cores: u8,
     /// How many rules may be in effect.
     pub(crate) flow_max: u32,
 }

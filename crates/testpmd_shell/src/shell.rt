@@ -1,5 +1,5 @@
 //! A session: from the words to the transcript.
-ghost use Rattle.std.specs.Prelude.{◌≡◌, ◌<◌, ◌-◌, ◌^◌, ◌↔◌, map, None, Some};
+ghost use Rattle.std.specs.Prelude.{◌≡◌, ◌<◌, ◌-◌, ◌^◌, ◌⊎◌, map, None, Some};
 ghost use Rattle.testpmd_shell.specs.Options.{options_of, given_of};
 ghost use Rattle.testpmd_shell.specs.Run.{edges_of, run_of};
 ghost use Rattle.testpmd_shell.specs.Session.{IsFresh, Allows, Says, SaysBy, Completes, IsReadByPhases, IsReadBy, IsTooLargeFirst, IsSerial, IsLegalAndWhole};
@@ -30,7 +30,9 @@ pub fn session_serial<S: Shelf, K: Sink>(
     requires sink { K.faults out.old < 2 ^ 64 - 1 }
     requires allowed { Allows (options_of (map (λ w. w.now) words.now)) (S.state shelf.old) }
 
-    ensures usage { (result ≡ Status.Usage) ↔ (options_of (map (λ w. w.now) words.now) ≡ None) }
+    // Usage just where the words give no options, unless there was no memory to tell
+    ensures usage { result ≡ Status.Usage → options_of (map (λ w. w.now) words.now) ≡ None }
+    ensures refused { options_of (map (λ w. w.now) words.now) ≡ None → (result ≡ Status.Usage) ⊎ (result ≡ Status.NoMemory) }
 
     // each status with its cause, and what was written
     ensures says { Says IsSerial (run_of (map (λ w. w.now) words.now)
@@ -46,7 +48,10 @@ pub fn session_serial<S: Shelf, K: Sink>(
     ensures large { IsTooLargeFirst (run_of (map (λ w. w.now) words.now)
         (edges_of S.state K.taken K.faults shelf.old out.old) (edges_of S.state K.taken K.faults shelf.new out.new)) result }
 {
-    let Some(options) = options(words) else {
+    let Ok(options) = options(alloc, words) else {
+        return Status::NoMemory;
+    };
+    let Some(options) = options else {
         return Status::Usage;
     };
     answer(alloc, &options, shelf, out)
@@ -67,7 +72,9 @@ pub fn session<R: Threads + Wait + Sync, S: Shelf + Send, K: Sink, G: Gate + Syn
     requires sink { K.faults out.old < 2 ^ 64 - 1 }
     requires allowed { Allows (options_of (map (λ w. w.now) words.now)) (S.state shelf.old) }
 
-    ensures usage { (result ≡ Status.Usage) ↔ (options_of (map (λ w. w.now) words.now) ≡ None) }
+    // Usage just where the words give no options, unless there was no memory to tell
+    ensures usage { result ≡ Status.Usage → options_of (map (λ w. w.now) words.now) ≡ None }
+    ensures refused { options_of (map (λ w. w.now) words.now) ≡ None → (result ≡ Status.Usage) ⊎ (result ≡ Status.NoMemory) }
 
     // each status with its cause, and what was written
     ensures says { Says IsLegalAndWhole (run_of (map (λ w. w.now) words.now)

@@ -1,179 +1,59 @@
-//! The program's words.
-ghost use Rattle.std.specs.Prelude.{◌≡◌, ◌≤◌, ◌<◌, ◌^◌, min, map, option_copied, IfSome};
+//! The program's words: a command takes them apart, and what it found makes the options.
+ghost use Rattle.std.specs.Prelude.{◌≡◌, map, option_copied, IfOk, IfSome};
 ghost use Rattle.std.specs.Option.{option_map};
-ghost use Rattle.std.specs.List.{list_all};
-ghost use Rattle.testpmd_shell.specs.Options.{value_of, values_of, at_most_one, is_known, is_digit, digits_value, is_number, number_or, queues_of, flow_max_of, options_of, given_of};
+ghost use Rattle.clap.specs.Words.{first_of, found_of, rows_of};
+ghost use Rattle.testpmd_shell.specs.Options.{given_in, options_of, given_of};
 ghost use Rattle.adapter.specs.Sound.{AreLimits};
 ghost use Rattle.testpmd_shell.specs.Found.{limits_of};
 
+use crate::command::{CAPTURE, CORES, QUEUES, RULES, SCRIPT, shell_command};
+use crate::numbers::{cores, queues, rules};
 use crate::options::Options;
+use clap::ArgMatches;
+use clap::error::ErrorKind;
+use std::alloc::{AllocError, Global};
 
-const SCRIPT: &str = "--cmdline-file=";
-
-const CAPTURE: &str = "--rx-pcap=";
-
-const QUEUES: &str = "--rxq=";
-
-const RULES: &str = "--flow-max=";
-
-/// The most Rx queues.
-const MAX_QUEUES: u32 = 16;
-
-/// The most rules that may be in effect, and how many may be where the words don't say.
-const MAX_RULES: u32 = 65_536;
-
-const USUAL_RULES: u32 = 4_096;
-
-/// What a word gives under a key.
-fn value<'a>(word: &'a str, key: &str) -> Option<&'a str>
-    ensures { option_copied result ≡ value_of key.now word.now }
+/// What the words give under a name.
+fn text_of<'a>(matches: &ArgMatches<'a>, name: &str) -> Option<&'a str>
+    ensures { option_copied result ≡ first_of name.now (rows_of (found_of matches.now)) }
 {
-    word.strip_prefix(key)
+    matches.get_str(name)
 }
 
-/// Whether a word is one of the four.
-fn known(word: &str) -> bool
-    ensures { result ≡ is_known word.now }
+/// The options that stand in what the command found, if the script is named and the numbers are in their ranges.
+fn options_in<'a>(matches: &ArgMatches<'a>) -> Option<Options<'a>>
+    ensures options { option_map given_of result ≡ given_in (rows_of (found_of matches.now)) }
+    ensures limits { IfSome result (λ options. AreLimits (limits_of (given_of options))) }
 {
-    if value(word, SCRIPT).is_some() {
-        return true;
-    }
-    if value(word, CAPTURE).is_some() {
-        return true;
-    }
-    if value(word, QUEUES).is_some() {
-        return true;
-    }
-    value(word, RULES).is_some()
-}
-
-/// Whether all words are.
-fn all_known(words: &[&str]) -> bool
-    ensures { result ≡ list_all is_known (map (λ w. w.now) words.now) }
-{
-    for word in words {
-        if !known(word) {
-            return false;
-        }
-    }
-    true
-}
-
-/// What the words give under a key, unless they give it twice.
-fn value_among<'a>(words: &[&'a str], key: &str) -> Option<Option<&'a str>>
-    ensures { option_map option_copied result ≡ at_most_one (values_of key.now (map (λ w. w.now) words.now)) }
-{
-    let mut found = None;
-    for word in words {
-        let Some(here) = value(word, key) else {
-            continue;
-        };
-        if found.is_some() {
-            return None;
-        }
-        found = Some(here);
-    }
-    Some(found)
-}
-
-/// The value of decimal digits, or the limit where it is above.
-fn capped_value(digits: &[u8], limit: u32) -> u32
-    requires { limit < 2 ^ 24 }
-    ensures { result ≡ min (digits_value digits.now) limit }
-{
-    let mut number: u32 = 0;
-    for digit in digits {
-        number = (number * 10 + u32::from(digit.saturating_sub(b'0'))).min(limit);
-    }
-    number
-}
-
-/// Whether a text is a number: one to six decimal digits.
-fn is_number(text: &[u8]) -> bool
-    ensures { result ≡ is_number text.now }
-{
-    if text.is_empty() {
-        return false;
-    }
-    if text.len() > 6 {
-        return false;
-    }
-    all_digits(text)
-}
-
-fn all_digits(text: &[u8]) -> bool
-    ensures { result ≡ list_all is_digit text.now }
-{
-    for byte in text {
-        if *byte < b'0' {
-            return false;
-        }
-        if *byte > b'9' {
-            return false;
-        }
-    }
-    true
-}
-
-/// The number from 1 to `most` that is given, or another where none is.
-fn number_or(other: u32, most: u32, text: Option<&str>) -> Option<u32>
-    requires other { (1 ≤ other) × (other ≤ most) }
-    requires most { most < 2 ^ 20 }
-    ensures number { result ≡ number_or other most (option_copied text.entry) }
-    ensures range { IfSome result (λ n. (1 ≤ n) × (n ≤ most)) }
-{
-    let Some(text) = text else {
-        return Some(other);
-    };
-    if !is_number(text.as_bytes()) {
-        return None;
-    }
-    let number = capped_value(text.as_bytes(), most + 1);
-    if number == 0 {
-        return None;
-    }
-    if number > most {
-        return None;
-    }
-    Some(number)
-}
-
-/// The number of Rx queues.
-fn queues(text: Option<&str>) -> Option<u8>
-    ensures number { result ≡ queues_of (option_copied text.entry) }
-    ensures range { IfSome result (λ rxq. (1 ≤ rxq) × (rxq ≤ 16)) }
-{
-    let number = number_or(1, MAX_QUEUES, text)?;
-    Some(number as u8)
-}
-
-/// How many rules may be in effect.
-fn rules(text: Option<&str>) -> Option<u32>
-    ensures number { result ≡ flow_max_of (option_copied text.entry) }
-    ensures range { IfSome result (λ n. (1 ≤ n) × (n ≤ 65536)) }
-{
-    number_or(USUAL_RULES, MAX_RULES, text)
+    let script = text_of(matches, SCRIPT)?;
+    let rxq = queues(text_of(matches, QUEUES))?;
+    let cores = cores(text_of(matches, CORES))?;
+    let flow_max = rules(text_of(matches, RULES))?;
+    Some(Options {
+        script,
+        capture: text_of(matches, CAPTURE),
+        rxq,
+        cores,
+        flow_max,
+    })
 }
 
 /// The options that the words give, if they give any.
-pub(crate) fn options<'a>(words: &[&'a str]) -> Option<Options<'a>>
-    ensures options { option_map given_of result ≡ options_of (map (λ w. w.now) words.now) }
-    ensures limits { IfSome result (λ options. AreLimits (limits_of (given_of options))) }
+pub(crate) fn options<'a>(
+    alloc: Global,
+    words: &'a [&'a str],
+) -> Result<Option<Options<'a>>, AllocError>
+    ensures options { IfOk result (λ options. option_map given_of options ≡ options_of (map (λ w. w.now) words.now)) }
+    ensures limits { IfOk result (λ options. IfSome options (λ o. AreLimits (limits_of (given_of o)))) }
 {
-    if !all_known(words) {
-        return None;
+    let command = shell_command(alloc)?;
+    match command.try_get_matches_from(words) {
+        Ok(matches) => Ok(options_in(&matches)),
+        Err(error) => {
+            if error.kind() == ErrorKind::OutOfMemory {
+                return Err(AllocError);
+            }
+            Ok(None)
+        }
     }
-    let script = value_among(words, SCRIPT)?;
-    let script = script?;
-    let capture = value_among(words, CAPTURE)?;
-    let rxq = value_among(words, QUEUES)?;
-    let rxq = queues(rxq)?;
-    let flow_max = value_among(words, RULES)?;
-    let flow_max = rules(flow_max)?;
-    Some(Options {
-        script,
-        capture,
-        rxq,
-        flow_max,
-    })
 }

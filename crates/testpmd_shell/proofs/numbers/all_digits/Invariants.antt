@@ -1,7 +1,7 @@
 use Rattle.std.proofs.Common.{◌≡◌, drop}
 use Rattle.std.specs.List.{list_all}
-use Rattle.testpmd_shell.specs.Options.{is_digit}
-use Rattle.testpmd_shell.proofs.words.all_digits.Given as goal
+use Rattle.testpmd_shell.specs.Numbers.{is_digit}
+use Rattle.testpmd_shell.proofs.numbers.all_digits.Given as goal
 
 abbrev pub invariant-loop-byte : goal.invariant-loop-byte
 invariant-loop-byte l = list_all is_digit l.text ≡ list_all is_digit (drop l.byte-index l.text)
