@@ -10,6 +10,9 @@ _flowpmd() {
         key=${COMP_WORDS[COMP_CWORD - 2]} value=$word
     elif [[ $word == --*=* ]]; then
         key=${word%%=*} value=${word#*=}
+    elif [[ ${COMP_WORDS[COMP_CWORD - 1]} == --?* && $word != -* ]]; then
+        # a value in a word of its own
+        key=${COMP_WORDS[COMP_CWORD - 1]} value=$word
     fi
     COMPREPLY=()
     case $key in
@@ -18,13 +21,14 @@ _flowpmd() {
         mapfile -t COMPREPLY < <(compgen -f -- "$value")
         ;;
     --rxq) mapfile -t COMPREPLY < <(compgen -W '1 2 3 4 5 6 7 8 9 10 11 12 13 14 15 16' -- "$value") ;;
+    --nb-cores) mapfile -t COMPREPLY < <(compgen -W '0 1 2 3 4 5 6 7 8 9 10 11 12 13 14 15 16' -- "$value") ;;
     --flow-max) mapfile -t COMPREPLY < <(compgen -W '1 64 1024 4096 65536' -- "$value") ;;
     *)
         local option given
-        for option in --cmdline-file= --rx-pcap= --rxq= --flow-max=; do
+        for option in --cmdline-file= --rx-pcap= --rxq= --nb-cores= --flow-max=; do
             # each at most once
-            given=" ${COMP_LINE} "
-            [[ $given == *" $option"* ]] || COMPREPLY+=("$option")
+            given=" ${COMP_WORDS[*]:0:COMP_CWORD} "
+            [[ ${given//=/ } == *" ${option%=} "* ]] || COMPREPLY+=("$option")
         done
         mapfile -t COMPREPLY < <(compgen -W "${COMPREPLY[*]}" -- "$word")
         compopt -o nospace 2>/dev/null

@@ -1,4 +1,4 @@
-//! How sessions end: edges that fail, captures that stop, limits, and words that give no options.
+//! How sessions end: edges that fail, captures that stop, and limits.
 use crate::run::{Capture, Fails, Frame, ONE_QUEUE, Row, SCRIPT_ALONE, TWO_QUEUES, expect};
 use std::alloc::{AllocError, Global};
 use std::process::Abort;
@@ -247,35 +247,4 @@ fn scripts_end_at_their_limits(rt: HostRuntime) -> Result<(), AllocError> {
         expect_filled(&rt, rt.alloc(), filled)?;
     }
     Ok(())
-}
-
-/// Words that give no options, each row named by the word that is wrong or missing.
-const USAGES: [(&str, &[&str]); 7] = [
-    ("17 queues", &["--rxq=17", "--cmdline-file=script"]),
-    ("no queue", &["--rxq=0", "--cmdline-file=script"]),
-    ("no script", &["--rxq=2", "--rx-pcap=capture"]),
-    (
-        "two scripts",
-        &["--cmdline-file=script", "--cmdline-file=script"],
-    ),
-    (
-        "an unknown option",
-        &["--cmdline-file=script", "--nb-cores=2"],
-    ),
-    (
-        "a store of no rule",
-        &["--cmdline-file=script", "--flow-max=0"],
-    ),
-    (
-        "a store of 65,537 rules",
-        &["--cmdline-file=script", "--flow-max=65537"],
-    ),
-];
-
-#[test]
-fn words_that_give_no_options(rt: HostRuntime) {
-    for (shows, words) in &USAGES {
-        let row = Row::of_script(shows, words, b"", Status::Usage, b"");
-        expect(&rt, rt.alloc(), &row);
-    }
 }

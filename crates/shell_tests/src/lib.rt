@@ -10,6 +10,8 @@ mod endings;
 #[cfg(test)]
 mod marks;
 #[cfg(test)]
+mod options;
+#[cfg(test)]
 mod patterns;
 #[cfg(test)]
 mod phases;

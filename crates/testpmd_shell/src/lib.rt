@@ -23,10 +23,14 @@
 //! (`specs/Found`). [`session_serial`] says it of the serial history, [`session`] of some legal and whole one. Where no call
 //! failed the status is the one that the files owe, or there was no memory.
 //!
+//! The words are taken apart by one simple command (`src/command.rt`), and what it makes of them is the definition of the
+//! options (`specs/Options`), with the ranges of the numbers.
+//!
 //! The order is: words; opening and reading the script; its size; opening the capture; the run; the transcript. What stops
 //! in front of the run has written nothing. A capture that no phase reads is never bad.
 //!
-//! Not done here: threads (`session` runs the serial order and leaves `rt` and `gate` unused) and the transmit file.
+//! Not done here: threads (`session` runs the serial order, whatever the number of workers, and
+//! leaves `rt` and `gate` unused) and the transmit file.
 #![tactic(auto)]
 
 mod ask;
