@@ -51,6 +51,3 @@ pub use rule::Rule;
 pub use spec::{Attr, RuleSpec};
 pub use validation::validate;
 pub use walk::{FlowsInEffect, classify};
-
-#[cfg(test)]
-mod tests;

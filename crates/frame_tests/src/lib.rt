@@ -1,4 +1,5 @@
-//! Frames in tables and generated ones: their layers, which patterns match them, their edits and their hashes.
+//! Frames in tables and generated ones: their layers, which patterns match them, their edits and their hashes; and the first
+//! faults of rules.
 //!
 //! What a row says was read off the bytes, the guide or a standard, and beside the compiled pattern a plain one answers.
 //! These tests stand in a crate of their own because a crate is proved twice where it has tests, once with them and once
@@ -15,3 +16,5 @@ mod hash_tests;
 mod header_tests;
 #[cfg(test)]
 mod pattern_tests;
+#[cfg(test)]
+mod rule_tests;

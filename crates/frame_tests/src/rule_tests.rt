@@ -1,7 +1,7 @@
 //! Rules as asked for, and their first faults.
-use super::*;
 use arrayvec::ArrayVec;
 use flow_actions::{Action, ActionKind, Actions, Rss};
+use flow_rules::{Attr, Cause, Fault, Known, Limits, RuleSpec, validate};
 use packet_headers::{Edit, ItemKind};
 use pattern_items::{Fields, Item, Pattern};
 use std::process::Abort;
