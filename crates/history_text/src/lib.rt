@@ -53,4 +53,4 @@ pub use read_back::{
     kinds_are_read_back, replies_are_told_apart, transcripts_are_told_apart,
     verdicts_are_told_apart,
 };
-pub use transcript::print_history;
+pub use transcript::{print_entry, print_history};

@@ -50,7 +50,8 @@ fn print_entries<K: Sink>(sink: &mut K, page: &mut Page, adapter: &Adapter)
     }
 }
 
-fn print_entry<K: Sink>(sink: &mut K, page: &mut Page, limits: Limits, entry: EntryView<'_>)
+/// Prints the line of an entry.
+pub fn print_entry<K: Sink>(sink: &mut K, page: &mut Page, limits: Limits, entry: EntryView<'_>)
     requires { limits.rxq ≤ 16 }
     ensures { Prints (gather_of K.taken K.faults sink.old page.old)
         (gather_of K.taken K.faults sink.new page.new) (entry_text limits (entry_of entry.entry)) }
@@ -96,6 +97,3 @@ fn print_end<K: Sink>(sink: &mut K, page: &mut Page, adapter: &Adapter, ending: 
     print(sink, page, b"\n");
     print_ending(sink, page, ending);
 }
-
-#[cfg(test)]
-mod tests;

@@ -1,0 +1,268 @@
+//! The lines of a transcript: replies, refusals and a verdict with their texts, and how a capture ended.
+use adapter::{Adapter, At, BadKind, Call, Caller, EntryView, Op, Parcel, Reply};
+use arrayvec::ArrayVec;
+use capture_files::CaptureKind;
+use flow_actions::{Fate, Verdict};
+use flow_rules::{Cause, Fault, Limits};
+use history_text::{Ending, print_entry, print_history};
+use io_edges::{MemSink, Page, finish};
+use packet_headers::parse;
+use std::process::Abort;
+use std::test::Fail;
+
+const LIMITS: Limits = Limits {
+    rxq: 1,
+    flow_max: 4096,
+};
+
+/// The Ethernet header of a frame, with the type of IPv4.
+const FRAME: [u8; 14] = [2, 0, 0, 0, 0, 1, 2, 0, 0, 0, 0, 2, 8, 0];
+
+fn expect_line(
+    rt: &(impl Abort + AllocGlobal),
+    entry: EntryView<'_>,
+    line: &[u8],
+) -> Result<(), Fail> {
+    let mut sink = MemSink::new(rt.alloc(), 1000, None)?;
+    let mut page = Page::new();
+    print_entry(&mut sink, &mut page, LIMITS, entry);
+    assert_eq!(rt; finish(&mut sink, page), Ok(()));
+    assert_eq!(rt; sink.taken(), line);
+    Ok(())
+}
+
+/// The line of a reply to a call in line 12, made by a caller.
+fn expect_reply(
+    rt: &(impl Abort + AllocGlobal),
+    caller: u8,
+    reply: &Reply,
+    line: &[u8],
+) -> Result<(), Fail> {
+    let call = Call {
+        at: At { line: 12, part: 1 },
+        op: Op::Stop,
+    };
+    let entry = EntryView::Asked {
+        caller: Caller(caller),
+        call: &call,
+        reply,
+    };
+    expect_line(rt, entry, line)
+}
+
+#[test]
+fn each_reply_has_its_text(rt: HostRuntime) -> Result<(), Fail> {
+    let rows: [(u8, Reply, &[u8]); 13] = [
+        (0, Reply::Validated, b"shell 12.1: Flow rule validated\n"),
+        (1, Reply::Created(7), b"agent0 12.1: Flow rule #7 created\n"),
+        (
+            8,
+            Reply::Destroyed(4294967294),
+            b"agent7 12.1: Flow rule #4294967294 destroyed\n",
+        ),
+        (0, Reply::Flushed, b"shell 12.1: Flow rules flushed\n"),
+        (
+            0,
+            Reply::Isolated(true),
+            b"shell 12.1: Ingress traffic is restricted to the defined flow rules\n",
+        ),
+        (
+            0,
+            Reply::Isolated(false),
+            b"shell 12.1: Ingress traffic is not restricted\n",
+        ),
+        (
+            0,
+            Reply::Started,
+            b"shell 12.1: Packet forwarding started\n",
+        ),
+        (0, Reply::Bye, b"shell 12.1: Bye\n"),
+        (
+            0,
+            Reply::Bad(BadKind::Arguments),
+            b"shell 12.1: Bad arguments\n",
+        ),
+        (0, Reply::Bad(BadKind::Port), b"shell 12.1: Invalid port\n"),
+        (
+            0,
+            Reply::Bad(BadKind::NotStarted),
+            b"shell 12.1: Packet forwarding not started\n",
+        ),
+        (
+            0,
+            Reply::Bad(BadKind::AlreadyStarted),
+            b"shell 12.1: Packet forwarding already started\n",
+        ),
+        (2, Reply::Created(0), b"agent1 12.1: Flow rule #0 created\n"),
+    ];
+    for (caller, reply, line) in &rows {
+        expect_reply(&rt, *caller, reply, line)?;
+    }
+    Ok(())
+}
+
+/// A cause with the place 3, and what stands behind `Caught error type `.
+static FAULTS: [(Cause, &str); 36] = [
+    (Cause::GroupRange, "3 (ATTR_GROUP): group out of range"),
+    (
+        Cause::PriorityRange,
+        "4 (ATTR_PRIORITY): priority out of range",
+    ),
+    (Cause::NoIngress, "5 (ATTR_INGRESS): ingress is required"),
+    (Cause::Egress, "6 (ATTR_EGRESS): egress is not supported"),
+    (
+        Cause::Transfer,
+        "7 (ATTR_TRANSFER): transfer is not supported",
+    ),
+    (Cause::RulesNumber, "8 (ATTR): rules number out of range"),
+    (Cause::TooManyItems, "9 (ITEM_NUM): more than 16 items"),
+    (
+        Cause::SpecMissing,
+        "10 (ITEM_SPEC): item 3: last or mask without spec",
+    ),
+    (
+        Cause::SpecNeeded,
+        "10 (ITEM_SPEC): item 3: spec is required",
+    ),
+    (Cause::LastBelow, "11 (ITEM_LAST): item 3: last below spec"),
+    (
+        Cause::LastInTemplate,
+        "11 (ITEM_LAST): item 3: last is not supported here",
+    ),
+    (
+        Cause::ItemOrder,
+        "13 (ITEM): item 3: does not follow the item before it",
+    ),
+    (
+        Cause::ItemDiffers,
+        "13 (ITEM): item 3: differs from the template",
+    ),
+    (
+        Cause::TooManyActions,
+        "14 (ACTION_NUM): more than 16 actions",
+    ),
+    (Cause::ActionConf, "15 (ACTION_CONF): action 3: bad value"),
+    (
+        Cause::NoIndirect,
+        "15 (ACTION_CONF): action 3: no such indirect action",
+    ),
+    (
+        Cause::ItemNeeded,
+        "16 (ACTION): action 3: needs an item in the pattern",
+    ),
+    (Cause::SecondFate, "16 (ACTION): action 3: second fate"),
+    (
+        Cause::SecondCount,
+        "16 (ACTION): action 3: counter named twice",
+    ),
+    (
+        Cause::ActionDiffers,
+        "16 (ACTION): action 3: differs from the template",
+    ),
+    (
+        Cause::KindNotIndirect,
+        "16 (ACTION): action cannot be indirect",
+    ),
+    (Cause::KindDiffers, "16 (ACTION): kind differs"),
+    (Cause::CannotUpdate, "16 (ACTION): action cannot be updated"),
+    (Cause::NoCounter, "16 (ACTION): no counter to query"),
+    (Cause::NoRule, "2 (HANDLE): no such rule"),
+    (Cause::NoObject, "2 (HANDLE): no such object"),
+    (Cause::NoQueue, "2 (HANDLE): no such queue"),
+    (Cause::TemplateIndex, "2 (HANDLE): no such template index"),
+    (Cause::IdInUse, "2 (HANDLE): id in use"),
+    (Cause::StoreFull, "1 (UNSPECIFIED): store full"),
+    (Cause::TableFull, "1 (UNSPECIFIED): table full"),
+    (Cause::QueueFull, "1 (UNSPECIFIED): queue full"),
+    (Cause::QueueRange, "1 (UNSPECIFIED): queues out of range"),
+    (Cause::TooMany, "1 (UNSPECIFIED): too many objects"),
+    (Cause::Busy, "17 (STATE): in use"),
+    (Cause::AlreadyConfigured, "17 (STATE): already configured"),
+];
+
+#[test]
+fn each_fault_has_its_text(rt: HostRuntime) -> Result<(), Fail> {
+    for (cause, text) in &FAULTS {
+        let fault = Fault {
+            cause: *cause,
+            at: 3,
+        };
+        let line = format!(in rt.alloc(); "shell 12.1: Caught error type {text}\n")?;
+        expect_reply(&rt, 0, &Reply::Fault(fault), line.as_bytes())?;
+    }
+    Ok(())
+}
+
+#[test]
+fn mark_hash_and_path_of_a_dropped_frame(rt: HostRuntime) -> Result<(), Fail> {
+    let mut path = ArrayVec::new();
+    path.push(3);
+    path.push(10);
+    path.push(4294967295);
+    let verdict = Verdict {
+        fate: Fate::Drop,
+        mark: Some(57005),
+        hash: Some(0x0BAD_F00D),
+        path,
+    };
+    let parcel = Parcel {
+        number: 1048576,
+        key: parse(&FRAME),
+        len: 60,
+    };
+    let entry = EntryView::Passed {
+        caller: Caller(24),
+        parcel,
+        verdict,
+    };
+    let line = b"worker15 #1048576: drop mark 57005 hash 0badf00d path 3,10,4294967295\n";
+    expect_line(&rt, entry, line)
+}
+
+const fn bad(place: u64, kind: CaptureKind) -> Ending {
+    Ending::Bad { place, kind }
+}
+
+#[test]
+fn each_ending_has_its_line(rt: HostRuntime) -> Result<(), Fail> {
+    let rows: [(Ending, &str); 9] = [
+        (Ending::Whole, ""),
+        (
+            bad(0, CaptureKind::HeaderCut),
+            "capture: bad at byte 0: header cut\n",
+        ),
+        (
+            bad(0, CaptureKind::Magic),
+            "capture: bad at byte 0: magic\n",
+        ),
+        (
+            bad(4, CaptureKind::Version),
+            "capture: bad at byte 4: version\n",
+        ),
+        (
+            bad(20, CaptureKind::LinkType),
+            "capture: bad at byte 20: link type\n",
+        ),
+        (
+            bad(100, CaptureKind::RecordCut),
+            "capture: bad at byte 100: record cut\n",
+        ),
+        (
+            bad(18446744073709551615, CaptureKind::RecordLength),
+            "capture: bad at byte 18446744073709551615: record length\n",
+        ),
+        (
+            Ending::Large { place: 1073741864 },
+            "capture: too large at byte 1073741864\n",
+        ),
+        (Ending::ReadFault, "capture: read fault\n"),
+    ];
+    let adapter = Adapter::new(rt.alloc(), LIMITS)?;
+    for (ending, line) in &rows {
+        let text = format!(in rt.alloc(); "total received 0 dropped 0 queues 0\n{line}")?;
+        let mut sink = MemSink::new(rt.alloc(), 1000, None)?;
+        assert_eq!(rt; print_history(&adapter, *ending, &mut sink), Ok(()));
+        assert_eq!(rt; sink.taken(), text.as_bytes());
+    }
+    Ok(())
+}
