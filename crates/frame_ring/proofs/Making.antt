@@ -117,11 +117,14 @@ range_more : (a n : ℕ) → range_with_len a (suc n) ≡ range_with_len a n ++ 
 range_more a zero = ap (λ k. k ∷ []) (sym (add-zero a))
 range_more a (suc n) = ap (λ l. a ∷ l) (range_more (a + 1) n ∙ ap (λ k. range_with_len (a + 1) n ++ k ∷ []) (omega arith))
 
+-- the numbers from 0 on, with the next one behind them
+pub numbers_next : (n m : ℕ) → n + 1 ≡ m → range_with_len 0 n ++ n ∷ [] ≡ range_with_len 0 m
+numbers_next n m next = ap (λ k. range_with_len 0 n ++ k ∷ []) (sym (zero-add n)) ∙ sym (range_more 0 n) ∙ ap (range_with_len 0) (sym (add-one n) ∙ next)
+
 -- the numbers of the passes go on
 pub numbers_more : (items more : List RingPass) (p : RingPass) (n m : ℕ) → more ≡ items ++ p ∷ [] → map number_of items ≡ range_with_len 0 n → number_of p ≡ n → n + 1 ≡ m → map number_of more ≡ range_with_len 0 m
 numbers_more items more p n m e was is next =
-    let last : range_with_len 0 n ++ n ∷ [] ≡ range_with_len 0 m = ap (λ k. range_with_len 0 n ++ k ∷ []) (sym (zero-add n)) ∙ sym (range_more 0 n) ∙ ap (range_with_len 0) (sym (add-one n) ∙ next) in
-    ap (map number_of) e ∙ map-append number_of items (p ∷ []) ∙ ap (λ l. l ++ number_of p ∷ []) was ∙ ap (λ k. range_with_len 0 n ++ k ∷ []) is ∙ last
+    ap (map number_of) e ∙ map-append number_of items (p ∷ []) ∙ ap (λ l. l ++ number_of p ∷ []) was ∙ ap (λ k. range_with_len 0 n ++ k ∷ []) is ∙ numbers_next n m next
 
 -- what an answer tells, where it is known which one it was
 pub ok_tells : (r : Result ⊤ Frame) (u : ⊤) (P : Type 0) (Q : Frame → Type 0) → r ≡ Ok u → MatchResult r (λ _. P) Q → P

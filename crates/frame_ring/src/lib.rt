@@ -61,8 +61,6 @@ mod buffer;
 mod pass;
 mod ring;
 mod rule;
-#[cfg(test)]
-mod tests;
 mod view;
 
 pub use buffer::{BUFFER_BYTES, Buffer};

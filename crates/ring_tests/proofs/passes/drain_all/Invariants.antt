@@ -1,7 +1,7 @@
 use Rattle.std.proofs.Common.{◌≡◌, ◌⊎◌, map}
 use Rattle.frame_ring.specs.Passes.{passes_in, frames_of, frames_in}
 use Rattle.frame_ring.specs.Rings.{AreAllOf, WasDrained}
-use Rattle.frame_ring.proofs.tests.drain_all.Given as goal
+use Rattle.ring_tests.proofs.passes.drain_all.Given as goal
 
 abbrev pub invariant-loop : goal.invariant-loop
 invariant-loop g l = record {

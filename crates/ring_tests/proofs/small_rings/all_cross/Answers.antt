@@ -1,6 +1,6 @@
 use denote.Param.Send.{sendable}
 use Rattle.frame_ring.proofs.SharedPasses.{pass_sync, passes_sync}
-use Rattle.frame_ring.proofs.tests.all_cross.Goals as goal
+use Rattle.ring_tests.proofs.small_rings.all_cross.Goals as goal
 
 pub is_shared-requires-2-sync-T : goal.is_shared-requires-2-sync-T
 is_shared-requires-2-sync-T κs = search (sendable, pass_sync)

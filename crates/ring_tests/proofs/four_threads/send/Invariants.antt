@@ -1,7 +1,7 @@
 use Rattle.std.proofs.Common.{◌≡◌, ◌<◌, All}
 use Rattle.frame_ring.specs.Passes.{number_of, offered}
 use Rattle.frame_ring.specs.Rings.{IsPassOf}
-use Rattle.frame_ring.proofs.tests.four_threads.send.Given as goal
+use Rattle.ring_tests.proofs.four_threads.send.Given as goal
 
 abbrev pub invariant-loop : goal.invariant-loop
 invariant-loop g l = record {

@@ -1,20 +1,23 @@
 //! Four threads offer and grab, over a ring with few buffers.
 ghost use Rattle.std.specs.Prelude.{◌≡◌, ◌+◌, ◌<◌, [], length, All};
+ghost use Rattle.std.specs.Bool.{OnTrue};
 ghost use Rattle.frame_ring.specs.Passes.{number_of, offered, passes_in, limit_of, gathered};
 ghost use Rattle.frame_ring.specs.Rings.{floor_of, IsPassOf, IsFresh};
+ghost use Rattle.ring_tests.specs.Numbered.{AreNumbered};
 
-use super::{drain_all, hand_in, take_pass};
-use crate::{Buffer, FrameRing, RingPass, RingPasses};
+use crate::passes::{drain_all, hand_in, take_pass};
+use frame_ring::{Buffer, FrameRing, RingPass, RingPasses};
 use std::sync::Wait;
 use std::test::Fail;
 use std::thread::{Threads, for_each_mut, yield_now};
 
 const FRAMES: u32 = 100_000;
 
-// A pass and the sum of the numbers that it grabbed.
+// A pass, whether it is the one that offers, and the sum of the numbers that it grabbed.
 #[derive(Drop)]
 struct Hand {
     pass: RingPass,
+    leads: bool,
     sum: u64,
 }
 
@@ -95,10 +98,11 @@ fn lead<R: Wait>(rt: &R, ring: &FrameRing, hand: &mut Hand)
 }
 
 fn act<R: Wait>(rt: &R, ring: &FrameRing, hand: &mut Hand)
-    requires { IsPassOf ring.now hand.old.pass × (floor_of ring.now ≡ 0) × (offered hand.old.pass ≡ []) }
+    requires pass { IsPassOf ring.now hand.old.pass × (floor_of ring.now ≡ 0) × (offered hand.old.pass ≡ []) }
+    requires leads { OnTrue hand.old.leads (number_of hand.old.pass ≡ 0) }
     ensures { IsPassOf ring.now hand.new.pass }
 {
-    if hand.pass.number == 0 {
+    if hand.leads {
         lead(rt, ring, hand);
         return;
     }
@@ -106,7 +110,7 @@ fn act<R: Wait>(rt: &R, ring: &FrameRing, hand: &mut Hand)
 }
 
 fn act_all<R: Threads + Wait + Sync>(rt: &R, ring: &FrameRing, hands: &mut [Hand])
-    requires hands { All (λ h. IsPassOf ring.now h.pass × (offered h.pass ≡ [])) hands.old }
+    requires hands { All (λ h. IsPassOf ring.now h.pass × (offered h.pass ≡ []) × OnTrue h.leads (number_of h.pass ≡ 0)) hands.old }
     requires floor { floor_of ring.now ≡ 0 }
     ensures { All (λ h. IsPassOf ring.now h.pass) hands.new }
 {
@@ -115,42 +119,36 @@ fn act_all<R: Threads + Wait + Sync>(rt: &R, ring: &FrameRing, hands: &mut [Hand
         hands,
         4,
         &|_, hand: &mut Hand|
-            requires { IsPassOf ring.now hand.now.pass × (offered hand.now.pass ≡ []) × (floor_of ring.now ≡ 0) }
+            requires { IsPassOf ring.now hand.now.pass × (offered hand.now.pass ≡ []) × OnTrue hand.now.leads (number_of hand.now.pass ≡ 0) × (floor_of ring.now ≡ 0) }
             ensures { IsPassOf ring.entry.now hand.exit.now.pass }
         { act(rt, ring, hand) },
     );
 }
 
-// One hand for each pass.
+fn new_hand(pass: RingPass, leads: bool) -> Hand
+    ensures { (result.pass ≡ pass) × (result.leads ≡ leads) }
+{
+    Hand {
+        pass,
+        leads,
+        sum: 0,
+    }
+}
+
+// One hand for each pass. That of number 0 leads.
 fn new_hands(ring: &FrameRing, passes: &mut RingPasses) -> [Hand; 4]
     requires passes { All (IsPassOf ring.now) (passes_in passes.old) × All IsFresh (passes_in passes.old) }
     requires length { length (passes_in passes.old) ≡ 4 }
-    ensures hands { All (λ h. IsPassOf ring.now h.pass × (offered h.pass ≡ [])) result }
+    requires numbers { AreNumbered (passes_in passes.old) }
+    ensures hands { All (λ h. IsPassOf ring.now h.pass × (offered h.pass ≡ []) × OnTrue h.leads (number_of h.pass ≡ 0)) result }
     ensures passes { passes_in passes.new ≡ [] }
     ensures list { (limit_of passes.new ≡ limit_of passes.old) × (gathered passes.new ≡ gathered passes.old) }
 {
-    let first = take_pass(ring, passes);
-    let second = take_pass(ring, passes);
-    let third = take_pass(ring, passes);
-    let fourth = take_pass(ring, passes);
-    [
-        Hand {
-            pass: first,
-            sum: 0,
-        },
-        Hand {
-            pass: second,
-            sum: 0,
-        },
-        Hand {
-            pass: third,
-            sum: 0,
-        },
-        Hand {
-            pass: fourth,
-            sum: 0,
-        },
-    ]
+    let fourth = new_hand(take_pass(ring, passes), false);
+    let third = new_hand(take_pass(ring, passes), false);
+    let second = new_hand(take_pass(ring, passes), false);
+    let first = new_hand(take_pass(ring, passes), true);
+    [first, second, third, fourth]
 }
 
 // Hands all passes in. The result is the sum of all sums.
@@ -176,7 +174,7 @@ fn hand_in_one(ring: &FrameRing, passes: &mut RingPasses, hand: Hand) -> u64
     ensures length { length (passes_in passes.new) ≡ length (passes_in passes.old) + 1 }
     ensures list { (limit_of passes.new ≡ limit_of passes.old) × (gathered passes.new ≡ gathered passes.old) }
 {
-    let Hand { pass, sum } = hand;
+    let Hand { pass, sum, .. } = hand;
     hand_in(ring, passes, pass);
     sum
 }

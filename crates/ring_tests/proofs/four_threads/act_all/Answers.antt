@@ -1,7 +1,7 @@
 use Rattle.std.proofs.Common.{◌<◌, length, subst, arith}
-use Rattle.frame_ring.specs.declared.tests.four_threads.Hand.{Hand}
+use Rattle.ring_tests.specs.declared.four_threads.Hand.{Hand}
 use Rattle.frame_ring.specs.Rings.{IsPassOf}
-use Rattle.frame_ring.proofs.tests.four_threads.act_all.Goals as goal
+use Rattle.ring_tests.proofs.four_threads.act_all.Goals as goal
 
 pub returns : goal.returns
 returns g c = λ k d lt.
