@@ -1,0 +1,11 @@
+mod Digests
+mod Lists
+mod Digits
+mod Homes
+mod Walks
+mod Growth
+mod Removal
+mod Ranks
+mod Scans
+mod Renewal
+mod Views
