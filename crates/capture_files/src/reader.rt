@@ -137,7 +137,7 @@ fn next_frame<S: Source>(
     ensures reads { ReadsFrame format.old progress.old format.new progress.new (S.left source.old) (S.left source.new) result buf.new }
     ensures progress { MatchResult result (λ header. progress.new ≡ behind progress.old header.captured_len) (λ _. progress.new ≡ progress.old) }
     ensures within { IsWithinLimits progress.new }
-    ensures short { IfOk result (λ header. header.captured_len ≤ MAX_FRAME_LEN) }
+    ensures short { IfOk result (λ header. header.captured_len ≤ 262144) }
     ensures told { is_some (S.left source.new) ≡ is_some (S.left source.old) }
     ensures cause { PartCause (S.faults source.old) (S.faults source.new) result }
     ensures keeps { S.keeps source.old source.new }

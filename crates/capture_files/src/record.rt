@@ -8,13 +8,15 @@ use crate::stop::{CaptureKind, Stop};
 /// The bytes of a record's header: seconds (4), part (4), captured length (4), wire length (4).
 pub const RECORD_HEADER_LEN: usize = 16;
 
-/// The most captured bytes of one record. A reader's buffer has room for them.
+/// The most captured bytes of one record, as many as tcpdump takes of a packet. A reader's buffer has room for them.
 pub const MAX_FRAME_LEN: usize = 262_144;
 
-/// The most frames of a capture.
+/// The most frames of a capture. What is kept of each, about 100 bytes, stays in memory to the end of a session: so it comes to
+/// about 100 MB.
 pub const MAX_FRAMES: u32 = 1_048_576;
 
-/// The most captured bytes of all frames of a capture together.
+/// The most captured bytes of all frames of a capture together, 1 GiB: who writes the frames out again behind the session keeps
+/// them until then.
 pub const MAX_CAPTURED: u32 = 1_073_741_824;
 
 /// When a frame was captured: the seconds, and the part of a second in microseconds, or nanoseconds where `nano` is set.

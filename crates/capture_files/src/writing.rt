@@ -8,7 +8,7 @@ ghost use Rattle.capture_files.specs.Capture.{capture};
 ghost use Rattle.capture_files.specs.Writing.{header_bytes, micros_of, record_head, record_bytes, capture_bytes, FitCapture, in_micros};
 
 use crate::header::HEADER_LEN;
-use crate::record::{MAX_FRAME_LEN, RECORD_HEADER_LEN, Stamp};
+use crate::record::{RECORD_HEADER_LEN, Stamp};
 use byteorder::{ByteOrder, LittleEndian};
 use io_edges::{Page, Sink, WriteFault, finish, print};
 
@@ -27,7 +27,7 @@ pub fn print_header<K: Sink>(sink: &mut K, page: &mut Page)
     print(sink, page, &FILE_HEADER);
 }
 
-/// Prints a record behind those that were printed before. Of a stamp in nanoseconds whole microseconds are written.
+/// Prints a record behind those that were printed before, of at most 262,144 bytes, as much as a reader takes. Of a stamp in nanoseconds whole microseconds are written.
 pub fn print_frame<K: Sink>(
     sink: &mut K,
     page: &mut Page,
@@ -35,7 +35,7 @@ pub fn print_frame<K: Sink>(
     wire_len: u32,
     bytes: &[u8],
 )
-    requires short { length bytes.now ≤ MAX_FRAME_LEN }
+    requires short { length bytes.now ≤ 262144 }
     ensures prints { Prints (gather_of K.taken K.faults sink.old page.old)
         (gather_of K.taken K.faults sink.new page.new) (record_bytes stamp wire_len bytes.now) }
     ensures keeps { K.keeps sink.old sink.new }
@@ -79,14 +79,14 @@ pub fn write_header<K: Sink>(sink: &mut K) -> Result<(), WriteFault>
     finish(sink, page)
 }
 
-/// Writes a record. Of a stamp in nanoseconds whole microseconds are written.
+/// Writes a record of at most 262,144 bytes, as much as a reader takes. Of a stamp in nanoseconds whole microseconds are written.
 pub fn write_frame<K: Sink>(
     sink: &mut K,
     stamp: Stamp,
     wire_len: u32,
     bytes: &[u8],
 ) -> Result<(), WriteFault>
-    requires short { length bytes.now ≤ MAX_FRAME_LEN }
+    requires short { length bytes.now ≤ 262144 }
     ensures ends { Ends (start_of K.taken K.faults sink.old) (K.taken sink.new) (K.faults sink.new)
         (record_bytes stamp wire_len bytes.now) result }
     ensures keeps { K.keeps sink.old sink.new }

@@ -1,4 +1,4 @@
--- The kind of an action, and which kinds say where a frame goes.
+-- The kind of an action, which kinds say where a frame goes, and which rules can share.
 use Rattle.std.specs.Prelude.{Bool, true, false}
 use Rattle.packet_headers.specs.declared.edits.Edit.{Edit}
 use Rattle.packet_headers.specs.declared.edits.Edit.TheVariants as edits
@@ -27,6 +27,8 @@ kind_of (actions.Rss rss) = kinds.Rss
 kind_of actions.Drop = kinds.Drop
 kind_of (actions.Jump group) = kinds.Jump
 kind_of (actions.Mark mark) = kinds.Mark
+kind_of actions.Count = kinds.Count
+kind_of (actions.Indirect id) = kinds.Indirect
 kind_of (actions.Set edit) = kind_of_edit edit
 
 abbrev pub is_fate : ActionKind → Bool
@@ -35,6 +37,14 @@ is_fate kinds.Rss = true
 is_fate kinds.Drop = true
 is_fate kinds.Jump = true
 is_fate _ = false
+
+-- rules can share an action of this kind
+abbrev pub is_shareable : ActionKind → Bool
+is_shareable kinds.Queue = true
+is_shareable kinds.Rss = true
+is_shareable kinds.Mark = true
+is_shareable kinds.Count = true
+is_shareable _ = false
 
 -- the action does nothing
 abbrev pub is_void : Action → Bool

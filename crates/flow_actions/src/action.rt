@@ -1,6 +1,6 @@
 //! Actions and their kinds.
 ghost use Rattle.std.specs.Prelude.{◌≡◌};
-ghost use Rattle.flow_actions.specs.Kinds.{kind_of, kind_of_edit, is_fate, is_void};
+ghost use Rattle.flow_actions.specs.Kinds.{kind_of, kind_of_edit, is_fate, is_shareable, is_void};
 
 use crate::rss::Rss;
 use arrayvec::ArrayVec;
@@ -23,6 +23,10 @@ pub enum ActionKind {
     Jump,
     /// Marks the frame with a number.
     Mark,
+    /// Counts the frame and its bytes.
+    Count,
+    /// An action that rules share, by its id.
+    Indirect,
     /// Sets the source address of Ethernet.
     MacSrc,
     /// Sets the destination address of Ethernet.
@@ -48,6 +52,30 @@ pub enum ActionKind {
 }
 
 impl ActionKind {
+    /// Whether rules can share an action of this kind.
+    pub fn is_shareable(self) -> bool
+        ensures { result ≡ is_shareable self }
+    {
+        match self {
+            ActionKind::Queue | ActionKind::Rss | ActionKind::Mark | ActionKind::Count => true,
+            ActionKind::Void
+            | ActionKind::Drop
+            | ActionKind::Jump
+            | ActionKind::Indirect
+            | ActionKind::MacSrc
+            | ActionKind::MacDst
+            | ActionKind::Ipv4Src
+            | ActionKind::Ipv4Dst
+            | ActionKind::Ipv6Src
+            | ActionKind::Ipv6Dst
+            | ActionKind::PortSrc
+            | ActionKind::PortDst
+            | ActionKind::DecTtl
+            | ActionKind::SetTtl
+            | ActionKind::SetVid => false,
+        }
+    }
+
     /// Whether an action of this kind says where the frame goes.
     pub fn is_fate(self) -> bool
         ensures { result ≡ is_fate self }
@@ -56,6 +84,8 @@ impl ActionKind {
             ActionKind::Queue | ActionKind::Rss | ActionKind::Drop | ActionKind::Jump => true,
             ActionKind::Void
             | ActionKind::Mark
+            | ActionKind::Count
+            | ActionKind::Indirect
             | ActionKind::MacSrc
             | ActionKind::MacDst
             | ActionKind::Ipv4Src
@@ -85,6 +115,10 @@ pub enum Action {
     Jump(u32),
     /// The mark.
     Mark(u32),
+    /// Counts the frame and its bytes.
+    Count,
+    /// The id of an action that rules share: the frame meets the value that it has then.
+    Indirect(u32),
     /// The edit of a header.
     Set(Edit),
 }
@@ -101,6 +135,8 @@ impl Action {
             Action::Drop => false,
             Action::Jump(_) => false,
             Action::Mark(_) => false,
+            Action::Count => false,
+            Action::Indirect(_) => false,
             Action::Set(_) => false,
         }
     }
@@ -116,6 +152,8 @@ impl Action {
             Action::Drop => ActionKind::Drop,
             Action::Jump(_) => ActionKind::Jump,
             Action::Mark(_) => ActionKind::Mark,
+            Action::Count => ActionKind::Count,
+            Action::Indirect(_) => ActionKind::Indirect,
             Action::Set(edit) => kind_of_edit(*edit),
         }
     }
@@ -131,6 +169,8 @@ impl Action {
             Action::Drop => Action::Drop,
             Action::Jump(group) => Action::Jump(*group),
             Action::Mark(mark) => Action::Mark(*mark),
+            Action::Count => Action::Count,
+            Action::Indirect(id) => Action::Indirect(*id),
             Action::Set(edit) => Action::Set(*edit),
         }
     }

@@ -2,8 +2,9 @@
 //!
 //! A rule has a list of actions, which are performed in order on each frame that it takes. An action of one of the kinds
 //! `Queue`, `Rss`, `Drop` and `Jump` is a fate: it says where the frame goes. `Queue` delivers it to an Rx queue, `Rss` to one
-//! that a hash chooses, `Drop` ends it, and `Jump` goes on with the rules of a later group. `Mark` gives the frame a number, and
-//! `Set` edits a field of its headers. `Void` does nothing, and stands where a list has a gap.
+//! that a hash chooses, `Drop` ends it, and `Jump` goes on with the rules of a later group. `Mark` gives the frame a number,
+//! `Count` counts it, and `Set` edits a field of its headers. `Indirect` stands for an action that several rules share, by its
+//! id. `Void` does nothing, and stands where a list has a gap.
 //!
 //! So the actions `void / jump group 3 / end` are
 //!

@@ -1,3 +1,5 @@
 pub mod FatesBelow
+pub mod Namings
+pub mod SharedValues
 pub mod Validity
 pub mod Visits

@@ -1,5 +1,5 @@
 -- What visits of groups keep, and that the walk over valid rules has ended when 16 groups were visited.
-use Rattle.std.proofs.Common.{◌≡◌, ℕ, zero, suc, ◌+◌, ◌≤◌, true, nat_lt, nat_eq, List, [], ◌∷◌, fold, Option, None, Some, refl, sym, subst, arith}
+use Rattle.std.proofs.Common.{◌≡◌, ℕ, zero, suc, ◌+◌, ◌≤◌, ◌<◌, true, false, nat_lt, nat_eq, List, [], ◌∷◌, fold, Option, None, Some, refl, sym, subst, arith}
 use Rattle.std.specs.List.{All}
 use Rattle.std.proofs.lemmas.List.Elements.{All-head, All-tail, All-filter, filter_passes}
 use Rattle.std.proofs.lemmas.Bool.{and_parts, eqb-true, cond_both}
@@ -12,7 +12,10 @@ use Rattle.flow_rules.specs.declared.walk.Course.TheVariants as courses
 use Rattle.flow_rules.specs.RuleView.{RuleView}
 use Rattle.flow_rules.specs.Valid.{IsGood, IsValidRule}
 use Rattle.flow_rules.specs.Best.{takes, better, first_lowest, best}
-use Rattle.flow_rules.specs.Walk.{Flows, Walked, performed, visited, gone_on, walked_by}
+use Rattle.flow_rules.specs.declared.counter.Counter.{Counter}
+use Rattle.flow_rules.specs.Shared.{counter_in, value_in, IsSharedOn, AreSharedOn}
+use Rattle.flow_rules.proofs.SharedValues.{value-keeps, shared-all}
+use Rattle.flow_rules.specs.Walk.{Flows, Walked, acted, performed, visited, gone_on, walked_by}
 
 -- what holds of a rule, where there is one
 abbrev pub HoldsOf : (RuleView → Type 0) → Option RuleView → Type 0
@@ -66,43 +69,82 @@ abbrev pub IsAhead : ℕ → Course → Type 0
 IsAhead k (courses.End fate) = Unit {0}
 IsAhead k (courses.Group group) = (k ≤ group) × (group ≤ 15)
 
-ahead-performed : (k : ℕ) (flows : Flows) (rule : RuleView) → k ≤ rule.group → (walked : Walked) (action : Action) → IsGood rule.group action → IsAhead (k + 1) walked.next
-    → IsAhead (k + 1) (performed flows rule walked action).next
-ahead-performed k flows rule below walked actions.Void good ahead = ahead
-ahead-performed k flows rule below walked (actions.Queue queue) good ahead = tt
-ahead-performed k flows rule below walked actions.Drop good ahead = tt
-ahead-performed k flows rule below walked (actions.Jump to) good ahead = (omega (arith, below, good.0), good.1)
-ahead-performed k flows rule below walked (actions.Rss rss) good ahead = tt
-ahead-performed k flows rule below walked (actions.Mark mark) good ahead = ahead
-ahead-performed k flows rule below walked (actions.Set edit) good ahead = ahead
+-- an action that goes to a group goes to a later one of the 16
+abbrev JumpsOn : ℕ → Action → Type 0
+JumpsOn group (actions.Jump to) = (group < to) × (to ≤ 15)
+JumpsOn group _ = Unit {0}
 
-ahead-visited : (k group : ℕ) (flows : Flows) (walked : Walked) → k ≤ group → (rule : Option RuleView) → HoldsOf IsValidRule rule → HoldsOf (IsOf group) rule
+jumps-good : (group : ℕ) (action : Action) → IsGood group action → JumpsOn group action
+jumps-good group actions.Void good = tt
+jumps-good group (actions.Queue queue) good = tt
+jumps-good group actions.Drop good = tt
+jumps-good group (actions.Jump to) good = good
+jumps-good group (actions.Rss rss) good = tt
+jumps-good group (actions.Mark mark) good = tt
+jumps-good group actions.Count good = tt
+jumps-good group (actions.Indirect id) good = tt
+jumps-good group (actions.Set edit) good = tt
+
+-- a shared action goes to no group
+jumps-shared : (rxq group : ℕ) (action : Action) → IsSharedOn rxq action → JumpsOn group action
+jumps-shared rxq group actions.Void on = tt
+jumps-shared rxq group (actions.Queue queue) on = tt
+jumps-shared rxq group actions.Drop on = tt
+jumps-shared rxq group (actions.Jump to) on = absurd (no on.0) where
+  no : false ≡ true → ⊥
+  no e = cc
+jumps-shared rxq group (actions.Rss rss) on = tt
+jumps-shared rxq group (actions.Mark mark) on = tt
+jumps-shared rxq group actions.Count on = tt
+jumps-shared rxq group (actions.Indirect id) on = tt
+jumps-shared rxq group (actions.Set edit) on = tt
+
+ahead-acted : (rxq k group : ℕ) (counter : Counter) → k ≤ group → (walked : Walked) (action : Action) → JumpsOn group action → IsAhead (k + 1) walked.next
+    → IsAhead (k + 1) (acted rxq counter walked action).next
+ahead-acted rxq k group counter below walked actions.Void on ahead = ahead
+ahead-acted rxq k group counter below walked (actions.Queue queue) on ahead = tt
+ahead-acted rxq k group counter below walked actions.Drop on ahead = tt
+ahead-acted rxq k group counter below walked (actions.Jump to) on ahead = (omega (arith, below, on.0), on.1)
+ahead-acted rxq k group counter below walked (actions.Rss rss) on ahead = tt
+ahead-acted rxq k group counter below walked (actions.Mark mark) on ahead = ahead
+ahead-acted rxq k group counter below walked actions.Count on ahead = ahead
+ahead-acted rxq k group counter below walked (actions.Indirect id) on ahead = ahead
+ahead-acted rxq k group counter below walked (actions.Set edit) on ahead = ahead
+
+ahead-performed : (k : ℕ) (flows : Flows) → AreSharedOn flows.rxq flows.shared → (rule : RuleView) → k ≤ rule.group → (walked : Walked) (action : Action) → IsGood rule.group action
+    → IsAhead (k + 1) walked.next → IsAhead (k + 1) (performed flows rule walked action).next
+ahead-performed k flows shared rule below walked action good =
+    ahead-acted flows.rxq k rule.group (counter_in rule.id action) below walked (value_in flows.shared action)
+    (value-keeps (JumpsOn rule.group) tt flows.shared (λ id value found. jumps-shared flows.rxq rule.group value (shared-all flows.rxq flows.shared shared id value found))
+    action (jumps-good rule.group action good))
+
+ahead-visited : (k group : ℕ) (flows : Flows) → AreSharedOn flows.rxq flows.shared → (walked : Walked) → k ≤ group → (rule : Option RuleView) → HoldsOf IsValidRule rule → HoldsOf (IsOf group) rule
     → IsAhead (k + 1) (visited flows walked rule).next
-ahead-visited k group flows walked below None valid of = tt
-ahead-visited k group flows walked below (Some rule) valid of =
-    performed-keeps (IsGood rule.group) (λ w. IsAhead (k + 1) w.next) flows rule (ahead-performed k flows rule (omega (arith, below, of))) _ rule.actions valid.values tt
+ahead-visited k group flows shared walked below None valid of = tt
+ahead-visited k group flows shared walked below (Some rule) valid of =
+    performed-keeps (IsGood rule.group) (λ w. IsAhead (k + 1) w.next) flows rule (ahead-performed k flows shared rule (omega (arith, below, of))) _ rule.actions valid.values tt
 
 -- where 16 groups are behind, any more visits do the same
-same : (n m k : ℕ) (flows : Flows) (walked : Walked) → All IsValidRule flows.rules → IsAhead k walked.next → 16 ≤ n + k → 16 ≤ m + k
+same : (n m k : ℕ) (flows : Flows) (walked : Walked) → All IsValidRule flows.rules → AreSharedOn flows.rxq flows.shared → IsAhead k walked.next → 16 ≤ n + k → 16 ≤ m + k
     → walked_by n flows walked ≡ walked_by m flows walked
-same zero zero k flows walked valid ahead most most' = refl
-same zero (suc m) k flows walked valid ahead most most' = by walked.next ahead where
+same zero zero k flows walked valid shared ahead most most' = refl
+same zero (suc m) k flows walked valid shared ahead most most' = by walked.next ahead where
   by : (next : Course) → IsAhead k next → walked ≡ gone_on (walked_by m flows) flows walked next
   by (courses.End fate) a = refl
   by (courses.Group group) a = absurd (omega (arith, a.0, a.1, most))
-same (suc n) zero k flows walked valid ahead most most' = by walked.next ahead where
+same (suc n) zero k flows walked valid shared ahead most most' = by walked.next ahead where
   by : (next : Course) → IsAhead k next → gone_on (walked_by n flows) flows walked next ≡ walked
   by (courses.End fate) a = refl
   by (courses.Group group) a = absurd (omega (arith, a.0, a.1, most'))
-same (suc n) (suc m) k flows walked valid ahead most most' =
-    by walked.next ahead (λ w a. same n m (k + 1) flows w valid a (omega (arith, most)) (omega (arith, most'))) where
+same (suc n) (suc m) k flows walked valid shared ahead most most' =
+    by walked.next ahead (λ w a. same n m (k + 1) flows w valid shared a (omega (arith, most)) (omega (arith, most'))) where
       by : (next : Course) → IsAhead k next → ((w : Walked) → IsAhead (k + 1) w.next → walked_by n flows w ≡ walked_by m flows w)
           → gone_on (walked_by n flows) flows walked next ≡ gone_on (walked_by m flows) flows walked next
       by (courses.End fate) a on = refl
       by (courses.Group group) a on = on (visited flows walked (best flows.rules group walked.layers))
-          (ahead-visited k group flows walked a.0 (best flows.rules group walked.layers) (HoldsOf-best IsValidRule flows.rules group walked.layers valid) (IsOf-best flows.rules group walked.layers))
+          (ahead-visited k group flows shared walked a.0 (best flows.rules group walked.layers) (HoldsOf-best IsValidRule flows.rules group walked.layers valid) (IsOf-best flows.rules group walked.layers))
 
-pub same_from_start : (n m : ℕ) (flows : Flows) (walked : Walked) → All IsValidRule flows.rules → walked.next ≡ courses.Group 0 → 16 ≤ n → 16 ≤ m
+pub same_from_start : (n m : ℕ) (flows : Flows) (walked : Walked) → All IsValidRule flows.rules → AreSharedOn flows.rxq flows.shared → walked.next ≡ courses.Group 0 → 16 ≤ n → 16 ≤ m
     → walked_by n flows walked ≡ walked_by m flows walked
-same_from_start n m flows walked valid at_start most most' =
-    same n m 0 flows walked valid (subst (IsAhead 0) (sym at_start) (omega arith, omega arith)) (omega (arith, most)) (omega (arith, most'))
+same_from_start n m flows walked valid shared at_start most most' =
+    same n m 0 flows walked valid shared (subst (IsAhead 0) (sym at_start) (omega arith, omega arith)) (omega (arith, most)) (omega (arith, most'))

@@ -2,8 +2,10 @@ pub mod Best
 pub mod Changes
 pub mod ErrorTypes
 pub mod Faults
+pub mod Naming
 pub mod OnPort
 pub mod RuleView
+pub mod Shared
 pub mod Valid
 pub mod Walk
 pub mod Way

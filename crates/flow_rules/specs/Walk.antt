@@ -14,17 +14,19 @@ use Rattle.flow_rules.specs.declared.counter.Counter.{Counter}
 use Rattle.flow_rules.specs.declared.walk.Course.{Course}
 use Rattle.flow_rules.specs.declared.walk.Course.TheVariants as courses
 use Rattle.flow_rules.specs.RuleView.{RuleView}
+use Rattle.flow_rules.specs.Shared.{Shared, value_in, counter_in}
 use Rattle.flow_rules.specs.Best.{best}
 
--- what packets see: the rules in effect, in the order in which they took effect, whether a miss drops, and how many Rx queues there
--- are
+-- what packets see: the rules in effect, in the order in which they took effect, the actions that they share, whether a miss drops,
+-- and how many Rx queues there are
 pub record Flows : Type 0 where
   pub rules : List RuleView
+  pub shared : Shared
   pub isolated : Bool
   pub rxq : ℕ
 
 -- What a walk carries: the frame's layers as edited so far, its mark, its RSS hash, the ids of the rules on its path, the
--- counters that were named, one element a naming, the edits that were done, and where it goes on.
+-- counters that were named, one element for each time, the edits that were done, and where it goes on.
 pub record Walked : Type 0 where
   pub layers : List LayerAt
   pub mark : Option ℕ
@@ -38,16 +40,22 @@ pub record Walked : Type 0 where
 abbrev pub start : List LayerAt → Walked
 start layers = record { layers = layers; mark = None; hash = None; path = []; named = []; edits = []; next = courses.Group 0 }
 
--- an action of a rule is performed
+-- an action is performed, where a COUNT names this counter
+abbrev pub acted : ℕ → Counter → Walked → Action → Walked
+acted rxq counter walked actions.Void = walked
+acted rxq counter walked (actions.Queue queue) = record walked { next = courses.End (fates.Queue queue) }
+acted rxq counter walked actions.Drop = record walked { next = courses.End fates.Drop }
+acted rxq counter walked (actions.Jump group) = record walked { next = courses.Group group }
+acted rxq counter walked (actions.Rss rss) =
+    record walked { hash = Some (hash_in rss.types walked.layers); next = courses.End (fates.Queue (queue_in rss rxq walked.layers)) }
+acted rxq counter walked (actions.Mark mark) = record walked { mark = Some mark }
+acted rxq counter walked actions.Count = record walked { named = walked.named ++ counter ∷ [] }
+acted rxq counter walked (actions.Indirect id) = walked
+acted rxq counter walked (actions.Set edit) = record walked { layers = edit_layers edit walked.layers; edits = walked.edits ++ edit ∷ [] }
+
+-- an action of a rule is performed: one of its own, or a shared one with the value that it has
 abbrev pub performed : Flows → RuleView → Walked → Action → Walked
-performed flows rule walked actions.Void = walked
-performed flows rule walked (actions.Queue queue) = record walked { next = courses.End (fates.Queue queue) }
-performed flows rule walked actions.Drop = record walked { next = courses.End fates.Drop }
-performed flows rule walked (actions.Jump group) = record walked { next = courses.Group group }
-performed flows rule walked (actions.Rss rss) =
-    record walked { hash = Some (hash_in rss.types walked.layers); next = courses.End (fates.Queue (queue_in rss flows.rxq walked.layers)) }
-performed flows rule walked (actions.Mark mark) = record walked { mark = Some mark }
-performed flows rule walked (actions.Set edit) = record walked { layers = edit_layers edit walked.layers; edits = walked.edits ++ edit ∷ [] }
+performed flows rule walked action = acted flows.rxq (counter_in rule.id action) walked (value_in flows.shared action)
 
 -- a frame that no rule of a group takes goes to queue 0, or is dropped in isolated mode
 abbrev pub missed : Bool → Fate
@@ -86,3 +94,7 @@ verdict_in flows walked = record { fate = fate_of flows.isolated walked.next; ma
 -- the verdict on a frame of these layers
 unfoldable pub verdict_of : Flows → List LayerAt → Verdict
 verdict_of flows layers = verdict_in flows (walk flows layers)
+
+-- the counters that a frame of these layers raises, one element for each time that it raises one
+unfoldable pub counters_of : Flows → List LayerAt → List Counter
+counters_of flows layers = (walk flows layers).named

@@ -1,7 +1,8 @@
 //! What calls change for packets.
 use crate::rule::Rule;
+use flow_actions::Action;
 
-/// A change of the rules in effect, or of what becomes of a frame that none takes.
+/// A change of the rules in effect, of the actions that they share, or of what becomes of a frame that no rule takes.
 #[derive(Drop)]
 pub enum Change {
     /// The rule takes effect, behind all others.
@@ -10,6 +11,10 @@ pub enum Change {
     Removed(u32),
     /// All rules are gone.
     Flushed,
+    /// The action that rules share by this id has this value.
+    IndirectSet(u32, Action),
+    /// The action that rules share by this id is gone.
+    IndirectGone(u32),
     /// Whether a frame that no rule takes is dropped.
     Isolated(bool),
 }

@@ -148,3 +148,10 @@ impl Fault {
         }
     }
 }
+
+/// Why an object wasn't made: it was refused, or there is no memory.
+#[derive(Clone, Copy, PartialEq, Eq, Debug)]
+pub enum TplFault {
+    Fault(Fault),
+    NoMemory,
+}

@@ -14,14 +14,19 @@
 //! (`specs/Faults`). The faults of the attributes come first, then those of the pattern, item by item from the left,
 //! then those of the actions, action by action. The code stops at the first one and makes no list.
 //!
-//! An action is judged in this order: its value is out of its range; it edits a header that no item in front of VXLAN names; it
-//! is a second fate.
+//! An action is judged in this order: it stands for a shared action that isn't in effect; its value is out of its range; it
+//! edits a header that no item in front of VXLAN names; it is a second fate, where a shared action counts as its kind; it names a
+//! counter, or a shared action, a second time.
 //!
 //! `specs/Best` and `specs/Walk` have what rules do to frames. A frame begins in group 0. Of the rules of a group that
 //! match it, that with the lowest priority number takes it, and among equals the one that took effect earlier. Its actions
 //! are performed in order, each on one record of what the walk carries, and its fate ends the walk or sends the frame on to
 //! a later group. So a walk meets at most 16 groups ([`more_visits_change_nothing`]). [`classify`] is the walk in code, for
 //! all who keep the rules in effect in their own ways and find the best of a group ([`FlowsInEffect`]).
+//!
+//! A COUNT names the counter of its rule. Rules can share an action by an id (`specs/Shared`): it is performed with the value
+//! that it has then, and a COUNT there names the counter of the id. Counters are kept by the crates above; what a frame names
+//! is `counters_of`.
 //!
 //! A mark stays until another takes its place. An edit changes the layers for all that comes behind it: a hash, and the match
 //! in a later group. No header is found anew. The code walks over the key as it came, and makes a copy of its own only where an
@@ -42,12 +47,12 @@ mod validation;
 mod walk;
 
 pub use change::Change;
-pub use counter::Counter;
-pub use fault::{Cause, ErrorType, Fault};
+pub use counter::{Count, Counter};
+pub use fault::{Cause, ErrorType, Fault, TplFault};
 pub use known::Known;
-pub use laws::more_visits_change_nothing;
+pub use laws::{counters_are_few, counters_are_named_by_the_path, more_visits_change_nothing};
 pub use limits::Limits;
 pub use rule::Rule;
 pub use spec::{Attr, RuleSpec};
-pub use validation::validate;
+pub use validation::{action_fault, attr_fault, direction_fault, is_bad_value, validate};
 pub use walk::{FlowsInEffect, classify};

@@ -8,7 +8,7 @@ use std::alloc::AllocError;
 use std::marker::Model;
 
 /// A rule that [`validate`](crate::validate) found right: its group and priority are in their ranges, each jump goes to
-/// a later group, and at most one action is a fate.
+/// a later group, and at most one action of its own is a fate.
 #[derive(Drop)]
 pub struct Rule {
     pub(crate) id: u32,

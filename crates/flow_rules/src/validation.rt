@@ -1,9 +1,11 @@
 //! The first fault of a rule, or the rule.
-ghost use Rattle.std.specs.Prelude.{◌≡◌, ◌≤◌, length, nat_le, false, IfOk, None, count_by, All};
+ghost use Rattle.std.specs.Prelude.{ℕ, ◌≡◌, ◌≤◌, [], length, nat_le, IfOk, None, All};
+ghost use Rattle.std.specs.Option.{option_map};
 ghost use Rattle.std.specs.List.{list_any};
 ghost use Rattle.header_edit.specs.Field.{has_field};
-ghost use Rattle.flow_rules.specs.Valid.{IsGood, has_fate};
-ghost use Rattle.flow_rules.specs.Faults.{first, attr_faults, is_bad, is_too_wide, is_named, lacks_item, item_fault, action_faults, first_fault, rule_of};
+ghost use Rattle.flow_rules.specs.Faults.{first, attr_faults, direction_faults, is_bad, is_too_wide, is_named, lacks_item, item_fault};
+ghost use Rattle.flow_rules.specs.Valid.{IsGood};
+ghost use Rattle.flow_rules.specs.Faults.{is_unknown, is_fate_in, is_count, is_shared, is_named_before, faults_at, action_faults, first_fault, rule_of};
 ghost use Rattle.std.specs.Result.{result_err};
 
 use crate::fault::{Cause, Fault};
@@ -77,7 +79,7 @@ fn fault(cause: Cause, at: u16) -> Fault
 }
 
 /// The first fault of the attributes.
-fn attr_fault(attr: &Attr) -> Option<Fault>
+pub fn attr_fault(attr: &Attr) -> Option<Fault>
     ensures { result ≡ first (attr_faults attr.now) }
 {
     if attr.group > MAX_GROUP {
@@ -86,6 +88,13 @@ fn attr_fault(attr: &Attr) -> Option<Fault>
     if attr.priority > MAX_PRIORITY {
         return Some(fault(Cause::PriorityRange, 0));
     }
+    direction_fault(attr)
+}
+
+/// The first fault of the directions.
+pub fn direction_fault(attr: &Attr) -> Option<Fault>
+    ensures { result ≡ first (direction_faults attr.now) }
+{
     if attr.egress {
         return Some(fault(Cause::Egress, 0));
     }
@@ -111,7 +120,7 @@ fn fault_of_item(item: ItemFault) -> Fault
 }
 
 /// Whether an action's value is out of its range, in a rule of this group.
-fn has_bad_value(rxq: u8, group: u32, action: &Action) -> bool
+pub fn is_bad_value(rxq: u8, group: u32, action: &Action) -> bool
     ensures { result ≡ is_bad rxq group action.now }
 {
     match action {
@@ -121,6 +130,8 @@ fn has_bad_value(rxq: u8, group: u32, action: &Action) -> bool
         Action::Jump(to) => *to > MAX_GROUP || *to <= group,
         Action::Rss(rss) => has_queue_over(rxq, rss.queues.as_slice()),
         Action::Mark(_) => false,
+        Action::Count => false,
+        Action::Indirect(_) => false,
         Action::Set(edit) => is_too_wide(*edit),
     }
 }
@@ -189,9 +200,8 @@ fn has_field(edit: Edit, kind: ItemKind) -> bool
     }
 }
 
-/// The first fault of the actions of a rule of this group and pattern. So far no action names an action that rules share, so
-/// `known` isn't asked.
-fn action_fault<N: Known>(
+/// The first fault of the actions of a rule of this group and pattern.
+pub fn action_fault<N: Known>(
     known: &N,
     rxq: u8,
     pattern: &[Item],
@@ -199,28 +209,141 @@ fn action_fault<N: Known>(
     list: &[Action],
 ) -> Option<Fault>
     requires { length list.now ≤ 16 }
-    ensures first { result ≡ first (action_faults rxq (N.kinds known.now) pattern.now group 0 false list.now) }
+    ensures first { result ≡ first (action_faults rxq (N.kinds known.now) pattern.now group 0 [] list.now) }
     ensures values { result ≡ None → All (IsGood group) list.now }
-    ensures one_fate { result ≡ None → count_by has_fate list.now ≤ 1 }
 {
-    let _ = known;
     let mut place: u16 = 0;
-    let mut fated = false;
     for action in list {
-        if has_bad_value(rxq, group, action) {
-            return Some(fault(Cause::ActionConf, place));
+        let before = &list[..place as usize];
+        if let Some(cause) = cause_at(known, rxq, pattern, group, before, action) {
+            return Some(fault(cause, place));
         }
-        if lacks_item(pattern, action) {
-            return Some(fault(Cause::ItemNeeded, place));
-        }
-        let is_fate = action.kind().is_fate();
-        if fated && is_fate {
-            return Some(fault(Cause::SecondFate, place));
-        }
-        fated = fated || is_fate;
         place += 1;
     }
     None
+}
+
+/// Why an action is refused behind those before, in a rule of this group and pattern.
+fn cause_at<N: Known>(
+    known: &N,
+    rxq: u8,
+    pattern: &[Item],
+    group: u32,
+    before: &[Action],
+    action: &Action,
+) -> Option<Cause>
+    ensures { (place : ℕ) → option_map (λ cause. record { cause = cause; at = place }) result
+        ≡ first (faults_at rxq (N.kinds known.now) pattern.now group place before.now action.now) }
+{
+    if is_unknown(known, action) {
+        return Some(Cause::NoIndirect);
+    }
+    if is_bad_value(rxq, group, action) {
+        return Some(Cause::ActionConf);
+    }
+    if lacks_item(pattern, action) {
+        return Some(Cause::ItemNeeded);
+    }
+    if is_fate_in(known, action) && has_fate(known, before) {
+        return Some(Cause::SecondFate);
+    }
+    if is_named_before(before, action) {
+        return Some(Cause::SecondCount);
+    }
+    None
+}
+
+/// Whether the shared action that this one stands for isn't in effect.
+fn is_unknown<N: Known>(known: &N, action: &Action) -> bool
+    ensures { result ≡ is_unknown (N.kinds known.now) action.now }
+{
+    match action {
+        Action::Indirect(id) => known.kind_of(*id).is_none(),
+        Action::Void
+        | Action::Queue(_)
+        | Action::Rss(_)
+        | Action::Drop
+        | Action::Jump(_)
+        | Action::Mark(_)
+        | Action::Count
+        | Action::Set(_) => false,
+    }
+}
+
+/// Whether an action says where a frame goes, where a shared one counts as its kind.
+fn is_fate_in<N: Known>(known: &N, action: &Action) -> bool
+    ensures { result ≡ is_fate_in (N.kinds known.now) action.now }
+{
+    let kind = match action {
+        Action::Indirect(id) => known.kind_of(*id),
+        Action::Void
+        | Action::Queue(_)
+        | Action::Rss(_)
+        | Action::Drop
+        | Action::Jump(_)
+        | Action::Mark(_)
+        | Action::Count
+        | Action::Set(_) => Some(action.kind()),
+    };
+    match kind {
+        Some(kind) => kind.is_fate(),
+        None => false,
+    }
+}
+
+/// Whether one of the actions says where a frame goes.
+fn has_fate<N: Known>(known: &N, list: &[Action]) -> bool
+    ensures { result ≡ list_any (is_fate_in (N.kinds known.now)) list.now }
+{
+    list.iter().any(|action| is_fate_in(known, action))
+}
+
+/// Whether one of the actions counts frames for its own rule.
+fn has_count(list: &[Action]) -> bool
+    ensures { result ≡ list_any is_count list.now }
+{
+    list.iter().any(|action| is_count(action))
+}
+
+/// Whether one of the actions is the shared one of this id.
+fn has_shared(id: u32, list: &[Action]) -> bool
+    ensures { result ≡ list_any (is_shared id) list.now }
+{
+    list.iter().any(|action| is_shared(id, action))
+}
+
+/// Whether one of the actions before names the same counter, or the same shared action.
+fn is_named_before(before: &[Action], action: &Action) -> bool
+    ensures { result ≡ is_named_before before.now action.now }
+{
+    match action {
+        Action::Count => has_count(before),
+        Action::Indirect(id) => has_shared(*id, before),
+        Action::Void
+        | Action::Queue(_)
+        | Action::Rss(_)
+        | Action::Drop
+        | Action::Jump(_)
+        | Action::Mark(_)
+        | Action::Set(_) => false,
+    }
+}
+
+/// Whether an action counts frames for its own rule.
+fn is_count(action: &Action) -> bool
+    ensures { result ≡ is_count action.now }
+{
+    matches!(action, Action::Count)
+}
+
+/// Whether an action is the shared one of this id.
+fn is_shared(id: u32, action: &Action) -> bool
+    ensures { result ≡ is_shared id action.now }
+{
+    let Action::Indirect(other) = action else {
+        return false;
+    };
+    id == *other
 }
 
 /// The same actions.

@@ -1,11 +1,13 @@
 //! The walk of a frame over the groups of rules, for whoever keeps the rules in effect.
-ghost use Rattle.std.specs.Prelude.{◌≡◌, ◌+◌, ◌≤◌, ◌<◌, fold, All, Some};
+ghost use Rattle.std.specs.Prelude.{◌≡◌, ◌+◌, ◌≤◌, ◌<◌, fold, All, Some, IfSome};
 ghost use Rattle.std.specs.Option.{option_map};
 ghost use Rattle.arrayvec.specs.ArrayVec.{array_vec_len};
 ghost use Rattle.flow_rules.specs.Best as spec;
-ghost use Rattle.flow_rules.specs.Walk.{Walked, missed, fate_of, performed, visited, walked_by, verdict_of};
+ghost use Rattle.flow_rules.specs.declared.counter.Counter.{Counter};
+ghost use Rattle.flow_rules.specs.Shared.{IsSharedOn, shared_at};
+ghost use Rattle.flow_rules.specs.Walk.{Walked, acted, missed, fate_of, performed, visited, walked_by, verdict_of};
 ghost use Rattle.flow_rules.specs.Way.{IsAt, layers_now};
-ghost use Rattle.flow_rules.specs.Valid.{IsGood};
+ghost use Rattle.flow_rules.specs.Valid.{IsFit, IsGood};
 ghost use Rattle.flow_rules.specs.declared.walk.Course.TheVariants as courses;
 ghost use Rattle.flow_actions.specs.declared.verdict.Fate.TheVariants as fates;
 ghost use Rattle.flow_actions.specs.Spread.{hash_in, queue_in};
@@ -21,17 +23,23 @@ use packet_headers::{Edit, Key};
 /// The number of groups, so the most rules on a frame's path.
 const MAX_VISITS: u32 = MAX_PATH as u32;
 
-/// What packets see: the rules in effect, kept so that the best of a group is found, what becomes of a frame that none
-/// takes, and among how many Rx queues frames are spread.
+/// What packets see: the rules in effect, kept so that the best of a group is found, the actions that they share, what becomes
+/// of a frame that no rule takes, and among how many Rx queues frames are spread.
 pub trait FlowsInEffect {
     ghost use Rattle.flow_rules.specs.Walk.{Flows};
 
-    /// The rules in effect, in the order in which they took effect, whether a miss drops, and how many Rx queues there are.
+    /// The rules in effect, in the order in which they took effect, the actions that they share, whether a miss drops, and how
+    /// many Rx queues there are.
     ghost flows: { Self → Flows };
 
     /// The rule of a group that takes a frame of these layers.
     fn best(&self, group: u32, key: &Key) -> Option<&Rule>
         ensures { option_map (λ rule. rule.now) result ≡ spec.best (flows self.entry.now).rules group key.now };
+
+    /// The value of the action that rules share by this id, if it is in effect.
+    fn shared(&self, id: u32) -> Option<&Action>
+        ensures value { option_map (λ action. action.now) result ≡ shared_at id (flows self.entry.now).shared }
+        ensures lawful { IfSome result (λ action. IsSharedOn (flows self.entry.now).rxq action.now) };
 
     /// Whether a frame that no rule takes is dropped.
     fn is_isolated(&self) -> bool
@@ -141,7 +149,7 @@ fn perform<F: FlowsInEffect>(flows: &F, rule: &Rule, key: &Key, way: &mut Way)
     }
 }
 
-/// Performs an action of a rule.
+/// Performs an action of a rule: one of its own, or a shared one with the value that it has.
 #[inline]
 fn perform_one<F: FlowsInEffect>(flows: &F, rule: &Rule, key: &Key, action: &Action, way: &mut Way)
     requires { IsGood rule.now.group action.now }
@@ -149,13 +157,32 @@ fn perform_one<F: FlowsInEffect>(flows: &F, rule: &Rule, key: &Key, action: &Act
         → IsAt key.now way.new (performed (F.flows flows.now) rule.now walked action.now) }
     ensures path { way.new.path ≡ way.old.path }
 {
+    let Action::Indirect(id) = action else {
+        act(flows.rxq(), key, action, way);
+        return;
+    };
+    if let Some(value) = flows.shared(*id) {
+        act(flows.rxq(), key, value, way);
+    }
+}
+
+/// Performs an action that isn't shared. Counters are raised elsewhere.
+#[inline]
+fn act(rxq: u8, key: &Key, action: &Action, way: &mut Way)
+    requires { IsFit action.now }
+    ensures acted { (walked : Walked) (counter : Counter) → IsAt key.now way.old walked
+        → IsAt key.now way.new (acted rxq counter walked action.now) }
+    ensures path { way.new.path ≡ way.old.path }
+{
     match action {
         Action::Void => {}
         Action::Queue(queue) => way.next = Course::End(Fate::Queue(*queue as u8)),
-        Action::Rss(rss) => spread(flows.rxq(), rss, key, way),
+        Action::Rss(rss) => spread(rxq, rss, key, way),
         Action::Drop => way.next = Course::End(Fate::Drop),
         Action::Jump(to) => way.next = Course::Group(*to),
         Action::Mark(mark) => way.mark = Some(*mark),
+        Action::Count => {}
+        Action::Indirect(_) => {}
         Action::Set(edit) => change(*edit, key, way),
     }
 }

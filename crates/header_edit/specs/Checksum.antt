@@ -1,6 +1,8 @@
 -- The Internet checksum: one's complement arithmetic on words of 16 bits (RFC 1071), and how a
 -- checksum follows a change of a word that it covers (RFC 1624).
 use Rattle.std.specs.Prelude.{ℕ, ◌+◌, ◌-◌, ◌*◌, ◌/◌, ◌%◌, ◌==◌, if◌then◌else◌, List, [], ◌∷◌, fold}
+use Rattle.header_edit.specs.declared.sums.Zero.{Zero}
+use Rattle.header_edit.specs.declared.sums.Zero.TheVariants as zeros
 
 -- one's complement addition: the carry out of the low 16 bits is added to them
 unfoldable pub ones_add : ℕ → ℕ → ℕ
@@ -38,3 +40,8 @@ never_zero checksum = if checksum == 0 then 65535 else checksum
 -- the same of UDP, where a checksum of 0 says that none was made
 unfoldable pub mended_udp : ℕ → List ℕ → List ℕ → ℕ
 mended_udp checksum old new = if checksum == 0 then 0 else never_zero (mended checksum old new)
+
+-- a checksum after words that it covers changed, by what 0 says there
+abbrev pub mended_as : Zero → ℕ → List ℕ → List ℕ → ℕ
+mended_as zeros.IsASum checksum old new = mended checksum old new
+mended_as zeros.SaysNone checksum old new = mended_udp checksum old new

@@ -7,7 +7,8 @@ ghost use Rattle.header_edit.specs.Field.{IsLawful, has_field};
 ghost use Rattle.header_edit.specs.Layers.{first, is_transport};
 ghost use Rattle.header_edit.specs.Frame.{bytes_at, with_checksums, changed, edit_layer, edit_bytes};
 
-use crate::bytes::{mend, mend_udp, word_at, write};
+use crate::bytes::{mend, word_at, write};
+use crate::sums::Zero;
 use packet_headers::places::{
     IPV4_CHECKSUM, IPV4_DST, IPV4_SRC, IPV4_TTL, IPV6_DST, IPV6_HOP, IPV6_SRC, MAC_SRC, PORT_DST,
     TCP_CHECKSUM, UDP_CHECKSUM,
@@ -37,13 +38,14 @@ fn mend_transport(frame: &mut [u8], transport: &Transport, place: usize, new: &[
 {
     match transport {
         Transport::None => {}
-        Transport::Tcp(header) => mend(frame, header.offset as usize + TCP_CHECKSUM, place, new),
-        Transport::Udp(header) => mend_udp(
-            frame,
-            header.offset as usize + UDP_CHECKSUM,
-            place,
-            new,
-        ),
+        Transport::Tcp(header) => {
+            let at = header.offset as usize + TCP_CHECKSUM;
+            mend(frame, at, place, new, Zero::IsASum);
+        }
+        Transport::Udp(header) => {
+            let at = header.offset as usize + UDP_CHECKSUM;
+            mend(frame, at, place, new, Zero::SaysNone);
+        }
     }
 }
 
@@ -68,7 +70,8 @@ fn change_ipv4(frame: &mut [u8], header: &Ipv4, from: usize, new: &[u8], transpo
         (ipv4_layer header.now ∷ transport_layers transport.now) frame.old }
 {
     let place = header.offset as usize + from;
-    mend(frame, header.offset as usize + IPV4_CHECKSUM, place, new);
+    let at = header.offset as usize + IPV4_CHECKSUM;
+    mend(frame, at, place, new, Zero::IsASum);
     change(frame, place, new, transport);
 }
 

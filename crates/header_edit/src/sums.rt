@@ -1,6 +1,6 @@
 //! One's complement sums, and a checksum behind a changed word (RFC 1624).
 ghost use Rattle.std.specs.Prelude.{◌≡◌, ◌%◌, length};
-ghost use Rattle.header_edit.specs.Checksum.{ones_add, words_of, ones_sum, mended_word, mended, mended_udp};
+ghost use Rattle.header_edit.specs.Checksum.{ones_add, words_of, ones_sum, mended_word, mended, mended_udp, mended_as};
 
 /// One's complement addition of two words.
 #[inline]
@@ -41,8 +41,29 @@ fn mended_word(checksum: u16, old: u16, new: u16) -> u16
     !ones_add(ones_add(!checksum, !old), new)
 }
 
+/// What a checksum of 0 says.
+#[derive(Clone, Copy)]
+pub enum Zero {
+    /// The words of what it covers come to 0, as in IPv4 and TCP.
+    IsASum,
+    /// None was made, as in UDP.
+    SaysNone,
+}
+
+/// A checksum after the words of bytes that it covers changed.
+pub fn mended_as(zero: Zero, checksum: u16, old: &[u8], new: &[u8]) -> u16
+    requires even { length old.now % 2 ≡ 0 }
+    requires same { length new.now ≡ length old.now }
+    ensures { result ≡ mended_as zero checksum (words_of old.now) (words_of new.now) }
+{
+    match zero {
+        Zero::IsASum => mended(checksum, old, new),
+        Zero::SaysNone => mended_udp(checksum, old, new),
+    }
+}
+
 /// A checksum after the words of bytes that it covers changed, word after word.
-pub fn mended(checksum: u16, old: &[u8], new: &[u8]) -> u16
+fn mended(checksum: u16, old: &[u8], new: &[u8]) -> u16
     requires even { length old.now % 2 ≡ 0 }
     requires same { length new.now ≡ length old.now }
     ensures { result ≡ mended checksum (words_of old.now) (words_of new.now) }
@@ -61,7 +82,7 @@ pub fn mended(checksum: u16, old: &[u8], new: &[u8]) -> u16
 
 /// The same of a UDP checksum, where 0 says that none was made.
 #[tactic(auto, unfolding(crate::specs::Checksum::mended_udp))]
-pub fn mended_udp(checksum: u16, old: &[u8], new: &[u8]) -> u16
+fn mended_udp(checksum: u16, old: &[u8], new: &[u8]) -> u16
     requires even { length old.now % 2 ≡ 0 }
     requires same { length new.now ≡ length old.now }
     ensures { result ≡ mended_udp checksum (words_of old.now) (words_of new.now) }

@@ -5,4 +5,4 @@ use Rattle.flow_rules.proofs.laws.more_visits_change_nothing.Goals as goal
 
 pub returns : goal.returns
 unfolding walk
-returns c = λ flows layers n valid most. same_from_start n 16 flows (start layers) valid refl most (omega arith)
+returns c = λ flows layers n valid shared most. same_from_start n 16 flows (start layers) valid shared refl most (omega arith)

@@ -1,4 +1,4 @@
-use Rattle.std.proofs.Common.{◌≡◌, drop, false}
+use Rattle.std.proofs.Common.{◌≡◌, [], take, drop}
 use Rattle.flow_rules.specs.Faults.{first, action_faults}
 use Rattle.flow_rules.proofs.validation.action_fault.Given as goal
 
@@ -6,4 +6,5 @@ use Rattle.flow_rules.proofs.validation.action_fault.Given as goal
 abbrev pub invariant-loop-action : goal.invariant-loop-action
 invariant-loop-action g l =
     (l.place ≡ l.action-index)
-    × (first (action_faults l.rxq (g.N.Known.kinds l.known) l.pattern l.group l.place l.fated (drop l.action-index l.list)) ≡ first (action_faults l.rxq (g.N.Known.kinds l.known) l.pattern l.group 0 false l.list))
+    × (first (action_faults l.rxq (g.N.Known.kinds l.known) l.pattern l.group l.place (take l.action-index l.list) (drop l.action-index l.list))
+    ≡ first (action_faults l.rxq (g.N.Known.kinds l.known) l.pattern l.group 0 [] l.list))
