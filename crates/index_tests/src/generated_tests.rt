@@ -161,7 +161,7 @@ fn an_index_is_a_plain_list(rt: HostRuntime) -> Result<(), Fail> {
         parse(&VXLAN_FRAME),
     ];
     let keys = &all_keys[..];
-    let mut index = RuleIndex::new(rt.alloc());
+    let mut index = RuleIndex::new(rt.alloc())?;
     let mut plain = Vec::new(rt.alloc());
     let mut random = Pcg32::new(42, 54);
     for _step in 0..STEPS {

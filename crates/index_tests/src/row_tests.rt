@@ -86,7 +86,7 @@ fn equal_priorities_keep_the_order_of_inserts(rt: HostRuntime) -> Result<(), Fai
         ("no items", &[Put(8), Put(4)], Some(8)),
     ];
     for (name, steps, want) in rows {
-        let mut index = RuleIndex::new(rt.alloc());
+        let mut index = RuleIndex::new(rt.alloc())?;
         for step in steps {
             take_step(&rt, &mut index, step)?;
         }
@@ -120,7 +120,7 @@ fn values_of_more_than_128_bits_are_compared(rt: HostRuntime) -> Result<(), Fail
         let mut both = asks(Ipv6, IPV6_SRC, from, 0);
         both.given = with(both.given, IPV6_DST, to);
         both.mask = with(both.mask, IPV6_DST, u128::MAX);
-        let mut index = RuleIndex::new(rt.alloc());
+        let mut index = RuleIndex::new(rt.alloc())?;
         put(&rt, &mut index, &rule(&rt, 3, 0, 0, &[both]))?;
         assert_eq!(rt; index.best(0, &key), want);
     }
@@ -143,7 +143,7 @@ const FIRST: u32 = 0x0a00_0000;
 
 #[test]
 fn index_compares(rt: HostRuntime) -> Result<(), Fail> {
-    let mut index = RuleIndex::new(rt.alloc());
+    let mut index = RuleIndex::new(rt.alloc())?;
     for n in 0..65_536u32 {
         let items = [asks(ItemKind::Ipv4, IPV4_DST, (FIRST + n) as u128, 0)];
         put(&rt, &mut index, &rule(&rt, n, 0, 0, &items))?;

@@ -8,10 +8,10 @@ use Rattle.packet_headers.specs.declared.items.LayerAt.{LayerAt}
 use Rattle.pattern_items.specs.declared.pattern.Fields.{Fields}
 use Rattle.pattern_items.specs.Matches.{is_of_kind}
 use Rattle.pattern_items.specs.Order.{is_vlan, is_vxlan}
-use Rattle.pattern_items.specs.Shape.{masked_by, all_masked_by, option_masked_by, met_from, met_by, and_then}
+use Rattle.pattern_items.specs.Shape.{masked_by, option_masked_by, met_from, met_by, and_then}
 use Rattle.rule_index.specs.declared.line.ShapeLine.{ShapeLine}
 use Rattle.rule_index.specs.declared.digest.DigestWay.{DigestWay}
-use Rattle.rule_index.specs.Lines.{kind_in, masks_in, numbers_by}
+use Rattle.rule_index.specs.Lines.{kind_in, masks_in}
 use Rattle.rule_index.specs.Digest.{mix_fields, mix_all, digest_by, way, meet_any, step, walk, ended}
 
 -- a walk over some layers, and then over more

@@ -1,9 +1,8 @@
 -- An index with one rule more, or with more tables.
-use Rattle.std.proofs.Common.{◌≡◌, ◌≢◌, ℕ, ◌+◌, ◌<◌, ◌≤◌, ◌⊎◌, inl, inr, zero, suc, Bool, true, false, length, take, List, [], ◌∷◌, ◌++◌, Option, None, Some, refl, sym, ap, subst, ◌∙◌, arith, nat_eq, ◌==◌, ◌&&◌, if◌then◌else◌, length-append, append-nil}
+use Rattle.std.proofs.Common.{◌≡◌, ◌≢◌, ℕ, ◌<◌, ◌≤◌, ◌⊎◌, inl, inr, zero, suc, Bool, true, false, length, take, List, [], ◌∷◌, ◌++◌, Option, None, Some, refl, sym, ap, subst, ◌∙◌, arith, nat_eq, ◌==◌, ◌&&◌, if◌then◌else◌, length-append, append-nil}
 use Rattle.std.proofs.lemmas.Bool.{eqb-true, ne_eqb, and_parts}
 use Rattle.std.proofs.Common.{eq-eqb}
 use Rattle.std.proofs.Math.Seq.{take-append_seam}
-use Rattle.std.proofs.lemmas.Bool.Decides.{eqb_tells}
 use Rattle.std.proofs.Common.{Result, Ok, Err, OnErr}
 use Rattle.std.proofs.lemmas.Option.{slice_get_within}
 use Rattle.std.specs.List.{slice_get}
@@ -15,10 +14,10 @@ use Rattle.rule_index.specs.declared.chain.HomeChain.{HomeChain}
 use Rattle.rule_index.specs.declared.chain.RulePlace.{RulePlace}
 use Rattle.rule_index.specs.declared.finder.Finder.{Finder}
 use Rattle.rule_index.specs.Tables.{IsHome, Grows}
-use Rattle.rule_index.specs.Places.{same_home, home_at, IsNext, AreLinked, Ends, IsChain, relinked, linked_by, last_of, longer, moved}
+use Rattle.rule_index.specs.Places.{same_home, home_at, IsNext, AreLinked, Ends, IsChain, relinked, linked_by, last_of, longer}
 use Rattle.rule_index.specs.Index.{IsKept, Indexed, HasNo, Stays, chain_of, place_of}
 use Rattle.rule_index.proofs.Homes.{IsHome-grows}
-use Rattle.rule_index.proofs.Walks.{within, home_is}
+use Rattle.rule_index.proofs.Walks.{within}
 
 -- lists with one element more
 get_push : {A : Type 0} (xs : List A) (x y : A) (p : ℕ) → slice_get (xs ++ x ∷ []) p ≡ Some y → (slice_get xs p ≡ Some y) ⊎ ((p ≡ length xs) × (x ≡ y))

@@ -1,5 +1,5 @@
 -- A rule is at home in the table that it wants.
-use Rattle.std.proofs.Common.{◌≡◌, ℕ, ◌+◌, ◌<◌, ◌≤◌, zero, suc, Bool, true, false, nat_eq, slice_index, length, map, List, [], ◌∷◌, ◌++◌, Option, None, Some, IfSome, refl, sym, ap, subst, ◌∙◌, arith, if◌then◌else◌}
+use Rattle.std.proofs.Common.{◌≡◌, ℕ, ◌+◌, ◌<◌, ◌≤◌, zero, suc, Bool, true, false, slice_index, length, map, List, [], ◌∷◌, ◌++◌, Option, None, Some, IfSome, refl, sym, ap, subst, ◌∙◌, arith, if◌then◌else◌}
 use Rattle.std.proofs.lemmas.List.{length-map}
 use Rattle.std.proofs.lemmas.Nat.{and_le_r}
 use Rattle.std.specs.List.{slice_get}
@@ -12,17 +12,17 @@ use Rattle.pattern_items.specs.declared.test.ItemTest.{ItemTest}
 use Rattle.pattern_items.specs.declared.test.Test.{Test}
 use Rattle.pattern_items.specs.Matches.{is_of_kind, accepts}
 use Rattle.pattern_items.specs.Order.{is_vlan, is_vxlan}
-use Rattle.pattern_items.specs.Shape.{masked_by, all_masked_by, option_masked_by, met_from, met_by, and_then, numbers_in, shape_of, values_of_test, masks_of_test, kind_of_test}
+use Rattle.pattern_items.specs.Shape.{masked_by, all_masked_by, option_masked_by, met_from, met_by, and_then, values_of_test, masks_of_test, kind_of_test}
 use Rattle.flow_rules.specs.RuleView.{RuleView}
 use Rattle.rule_index.specs.declared.line.ShapeLine.{ShapeLine}
 use Rattle.rule_index.specs.declared.table.Home.{Home}
 use Rattle.rule_index.specs.declared.table.Table.{Table}
 use Rattle.rule_index.specs.declared.wanted.Wanted.{Wanted}
-use Rattle.rule_index.specs.Lines.{lines_by, kind_in, masks_in, numbers_by}
+use Rattle.rule_index.specs.Lines.{lines_by, kind_in, masks_in}
 use Rattle.rule_index.specs.Digest.{digest_by, mix_all}
 use Rattle.rule_index.specs.Exact.{AreExact, IsWithin, AreWithin}
 use Rattle.rule_index.specs.Tables.{digest_with, lines_in, digest_in, IsShapeOf, IsExact, own_digest, IsWantedBy, HasEven, IsEven, lines_of, IsOf, IsAt, IsHome, Grows}
-use Rattle.rule_index.proofs.Digits.{IsSix, AreSix, exact_numbers}
+use Rattle.rule_index.proofs.Digits.{AreSix, exact_numbers}
 
 -- the numbers of layers are within their masks
 masked_within : (masks : Fields) (l : LayerAt) → IsWithin masks (masked_by masks l)

@@ -1,5 +1,5 @@
 -- One element more of lists that are gone through together.
-use Rattle.std.proofs.Common.{◌≡◌, ℕ, ◌+◌, ◌<◌, ◌≤◌, Bool, zero, suc, length, take, drop, get_or, List, [], ◌∷◌, ◌++◌, refl, ap, sym, subst, ◌∙◌, arith, add-one}
+use Rattle.std.proofs.Common.{◌≡◌, ℕ, ◌+◌, ◌<◌, ◌≤◌, Bool, zero, suc, length, take, drop, get_or, List, [], ◌∷◌, ◌++◌, refl, ap, sym, ◌∙◌, arith, add-one}
 use Rattle.std.proofs.lemmas.List.{drop_all, take_more}
 use Rattle.packet_headers.specs.declared.items.ItemKind.{ItemKind}
 use Rattle.rule_index.specs.declared.line.ShapeLine.{ShapeLine}

@@ -13,7 +13,7 @@ use Rattle.rule_index.specs.declared.table.Table.{Table}
 use Rattle.rule_index.specs.declared.chain.HomeChain.{HomeChain}
 use Rattle.rule_index.specs.declared.chain.RulePlace.{RulePlace}
 use Rattle.rule_index.specs.Index.{Indexed}
-use Rattle.rule_index.specs.Rank.{present, rank, Below, IsTaken, IsSound, IsLeast, IsIn, id_of}
+use Rattle.rule_index.specs.Rank.{present, rank, IsLeast, IsIn, id_of}
 
 abbrev Slots : Type 0
 Slots = List (Option RuleView)

@@ -1,16 +1,16 @@
 -- An index with one rule less.
-use Rattle.std.proofs.Common.{◌≡◌, ◌≢◌, ℕ, ◌+◌, ◌<◌, ◌≤◌, ◌⊎◌, inl, inr, zero, suc, Bool, true, false, not, length, filter, List, [], ◌∷◌, ◌++◌, Option, None, Some, refl, sym, ap, subst, ◌∙◌, arith, nat_eq, if◌then◌else◌, slice_set, length-set}
+use Rattle.std.proofs.Common.{◌≡◌, ◌≢◌, ℕ, ◌+◌, ◌≤◌, zero, suc, Bool, true, false, not, length, List, [], ◌∷◌, Option, None, Some, refl, sym, ap, subst, ◌∙◌, arith, nat_eq, if◌then◌else◌, slice_set}
 use Rattle.std.proofs.lemmas.Bool.{eqb-true, ne_eqb}
 use Rattle.std.proofs.Common.{eq-eqb}
 use Rattle.std.specs.List.{slice_get}
 use Rattle.flow_rules.specs.RuleView.{RuleView}
-use Rattle.flow_rules.specs.Changes.{has_id, without}
+use Rattle.flow_rules.specs.Changes.{without}
 use Rattle.rule_index.specs.declared.table.Home.{Home}
 use Rattle.rule_index.specs.declared.table.Table.{Table}
 use Rattle.rule_index.specs.declared.chain.HomeChain.{HomeChain}
 use Rattle.rule_index.specs.declared.chain.RulePlace.{RulePlace}
-use Rattle.rule_index.specs.Places.{same_home, home_at, Ends, IsChain, IsFirst, moved}
-use Rattle.rule_index.specs.Index.{IsKept, Indexed, HasNo, rule_in, IsFound, IsPlaceOf, AreDistinct}
+use Rattle.rule_index.specs.Places.{same_home, Ends, IsChain, IsFirst, moved}
+use Rattle.rule_index.specs.Index.{Indexed, HasNo, IsPlaceOf, AreDistinct}
 use Rattle.rule_index.specs.Rank.{present}
 use Rattle.rule_index.proofs.Growth.{same_home_is}
 

@@ -1,14 +1,11 @@
 -- The slots that have rules.
-use Rattle.std.proofs.Common.{◌≡◌, ℕ, ◌+◌, ◌<◌, ◌≤◌, zero, suc, Bool, true, false, is_some, length, take, filter, get_or, List, [], ◌∷◌, ◌++◌, Option, None, Some, refl, sym, ap, subst, ◌∙◌, arith, add-one, nat_eq}
+use Rattle.std.proofs.Common.{◌≡◌, ℕ, ◌+◌, ◌<◌, ◌≤◌, zero, suc, Bool, is_some, length, take, filter, get_or, List, [], ◌∷◌, ◌++◌, Option, None, Some, refl, ap, ◌∙◌, arith}
 use Rattle.std.proofs.lemmas.List.{take_more}
 use Rattle.std.specs.List.{slice_get}
 use Rattle.flow_rules.specs.RuleView.{RuleView}
 use Rattle.rule_index.specs.declared.table.Home.{Home}
-use Rattle.rule_index.specs.declared.table.Table.{Table}
 use Rattle.rule_index.specs.declared.chain.HomeChain.{HomeChain}
-use Rattle.rule_index.specs.declared.chain.RulePlace.{RulePlace}
-use Rattle.rule_index.specs.declared.finder.Finder.{Finder}
-use Rattle.rule_index.specs.Index.{Indexed, IsIndexed, chain_of, place_of, AreDistinct, HasNo}
+use Rattle.rule_index.specs.Index.{Indexed, AreDistinct, HasNo}
 use Rattle.rule_index.specs.Rank.{present}
 
 abbrev Slots : Type 0

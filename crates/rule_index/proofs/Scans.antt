@@ -1,5 +1,5 @@
 -- The rules of the tables so far are counted.
-use Rattle.std.proofs.Common.{◌≡◌, ℕ, ◌+◌, ◌*◌, ◌/◌, ◌%◌, ◌^◌, ◌<◌, ◌≤◌, ◌⊎◌, inl, inr, Bool, true, false, length, get_or, min, List, Option, None, Some, refl, sym, ap, ◌∙◌, subst, arith, nat_eq, nat_lt, ◌&&◌}
+use Rattle.std.proofs.Common.{◌≡◌, ℕ, ◌+◌, ◌/◌, ◌^◌, ◌<◌, ◌≤◌, ◌⊎◌, inl, inr, Bool, true, false, length, get_or, min, List, Option, None, Some, refl, sym, ap, ◌∙◌, subst, arith, nat_eq, ◌&&◌}
 use Rattle.std.proofs.Common.{eq-eqb}
 use Rattle.std.proofs.lemmas.Bool.{and_parts, eqb-true, ltb-true}
 use Rattle.std.proofs.lemmas.Bool.Decides.{eqb_tells}
@@ -14,7 +14,7 @@ use Rattle.rule_index.specs.declared.table.Home.{Home}
 use Rattle.rule_index.specs.declared.table.Table.{Table}
 use Rattle.rule_index.specs.declared.chain.HomeChain.{HomeChain}
 use Rattle.rule_index.specs.declared.chain.RulePlace.{RulePlace}
-use Rattle.rule_index.specs.Tables.{IsHome, digest_in}
+use Rattle.rule_index.specs.Tables.{digest_in}
 use Rattle.rule_index.specs.Places.{passes, home_at, Ends, IsChain, IsFirst}
 use Rattle.rule_index.specs.Index.{Indexed}
 use Rattle.rule_index.specs.Rank.{rank, Below, IsTaken, IsSound, IsLeast, IsTakenIn, lesser, asked_by, is_beaten}

@@ -1,10 +1,9 @@
 -- What contracts see of the slots.
-use Rattle.std.proofs.Common.{◌≡◌, ℕ, zero, suc, Bool, true, false, nat_eq, if◌then◌else◌, List, [], ◌∷◌, ◌++◌, Option, None, Some, refl, sym, ap, subst, ◌∙◌, arith, eq-eqb}
+use Rattle.std.proofs.Common.{◌≡◌, ℕ, zero, suc, Bool, true, false, nat_eq, if◌then◌else◌, List, [], ◌∷◌, ◌++◌, Option, None, Some, refl, sym, ap, ◌∙◌, arith, eq-eqb}
 use Rattle.std.proofs.lemmas.Bool.{ne_eqb}
 use Rattle.std.specs.List.{slice_get}
 use Rattle.flow_rules.specs.RuleView.{RuleView}
-use Rattle.flow_rules.specs.Changes.{has_id, without}
-use Rattle.rule_index.specs.Index.{HasNo, AreDistinct, IsFound, IsPlaceOf}
+use Rattle.rule_index.specs.Index.{HasNo, AreDistinct}
 use Rattle.rule_index.specs.IndexView.{IndexView, named}
 use Rattle.rule_index.specs.Rank.{present}
 

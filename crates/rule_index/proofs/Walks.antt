@@ -1,5 +1,5 @@
 -- The way along a home\'s places.
-use Rattle.std.proofs.Common.{◌≡◌, ℕ, ◌+◌, ◌-◌, ◌<◌, ◌≤◌, ◌⊎◌, inl, inr, zero, suc, Bool, true, false, length, get_or, List, [], ◌∷◌, Option, None, Some, refl, sym, ap, subst, ◌∙◌, arith}
+use Rattle.std.proofs.Common.{◌≡◌, ℕ, ◌+◌, ◌-◌, ◌<◌, ◌≤◌, inl, inr, zero, suc, true, false, length, get_or, List, [], ◌∷◌, Option, None, Some, refl, sym, ap, subst, ◌∙◌, arith}
 use Rattle.std.proofs.Math.ListN.{set}
 use Rattle.std.proofs.lemmas.Bool.Decides.{eqb_tells}
 use Rattle.std.proofs.lemmas.Option.{slice_get_within}
@@ -9,7 +9,7 @@ use Rattle.packet_headers.specs.declared.items.LayerAt.{LayerAt}
 use Rattle.flow_rules.specs.RuleView.{RuleView}
 use Rattle.rule_index.specs.declared.table.Home.{Home}
 use Rattle.rule_index.specs.declared.chain.RulePlace.{RulePlace}
-use Rattle.rule_index.specs.Places.{passes, home_at, IsNext, AreLinked, IsFirstAt, IsFirst, relinked}
+use Rattle.rule_index.specs.Places.{passes, home_at, IsNext, AreLinked, IsFirst, relinked}
 
 -- what passes is still to come
 pub record Coming (asked : Option (List LayerAt)) (slots : List (Option RuleView)) (places : List RulePlace) (home : Home) (from a : ℕ) : Type 0 where

@@ -1,8 +1,7 @@
 -- Digests that are exact: the numbers of the items are digits, and no digest is as great as 2^128.
-use Rattle.std.specs.Prelude.{ℕ, ◌+◌, ◌*◌, ◌^◌, ◌≤◌, ◌<◌, slice_index, fold, List, [], ◌∷◌, Option, None, Some}
+use Rattle.std.specs.Prelude.{ℕ, ◌+◌, ◌*◌, ◌^◌, ◌≤◌, ◌<◌, slice_index, fold, List, [], ◌∷◌}
 use Rattle.std.specs.List.{range_with_len}
 use Rattle.pattern_items.specs.declared.pattern.Fields.{Fields}
-use Rattle.pattern_items.specs.declared.shape.Shape.{Shape}
 
 -- the greatest digest with one more digit, whose greatest is the mask
 unfoldable pub raised : ℕ → ℕ → ℕ

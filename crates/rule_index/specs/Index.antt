@@ -1,8 +1,7 @@
 -- What an index keeps of its rules to find them.
-use Rattle.std.specs.Prelude.{◌≡◌, ℕ, ◌≤◌, ◌<◌, Bool, nat_eq, length, List, [], ◌∷◌, ◌++◌, Option, None, Some, slice_get}
+use Rattle.std.specs.Prelude.{◌≡◌, ℕ, ◌≤◌, ◌<◌, nat_eq, length, List, [], ◌∷◌, ◌++◌, Option, None, Some, slice_get}
 use Rattle.std.specs.HashMap as hash
 use Rattle.flow_rules.specs.RuleView.{RuleView}
-use Rattle.flow_rules.specs.Changes.{has_id}
 use Rattle.rule_index.specs.declared.table.Home.{Home}
 use Rattle.rule_index.specs.declared.table.Table.{Table}
 use Rattle.rule_index.specs.declared.chain.HomeChain.{HomeChain}

@@ -1,5 +1,5 @@
 -- Places, each with its home, and the chains of the places that have one home.
-use Rattle.std.specs.Prelude.{◌≡◌, ℕ, zero, suc, ◌<◌, ◌≤◌, Bool, true, false, is_some, nat_eq, if◌then◌else◌, ◌==◌, ◌&&◌, length, List, [], ◌∷◌, ◌++◌, Option, None, Some, slice_get}
+use Rattle.std.specs.Prelude.{◌≡◌, ℕ, zero, suc, ◌<◌, ◌≤◌, Bool, true, false, nat_eq, if◌then◌else◌, ◌==◌, ◌&&◌, List, [], ◌∷◌, Option, None, Some, slice_get}
 use Rattle.std.specs.Option.{option_map}
 use Rattle.packet_headers.specs.declared.items.LayerAt.{LayerAt}
 use Rattle.pattern_items.specs.Matches.{accepts}

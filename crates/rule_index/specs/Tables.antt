@@ -1,5 +1,5 @@
 -- The tables of an index, and which table is a rule's.
-use Rattle.std.specs.Prelude.{◌≡◌, ℕ, ◌↔◌, Bool, true, IsTrue, length, List, [], ◌∷◌, ◌++◌, Option, None, Some, IfSome, slice_get}
+use Rattle.std.specs.Prelude.{◌≡◌, ℕ, ◌↔◌, Bool, true, IsTrue, length, List, ◌++◌, Option, None, Some, IfSome, slice_get}
 use Rattle.std.specs.Option.{option_map}
 use Rattle.packet_headers.specs.declared.items.LayerAt.{LayerAt}
 use Rattle.pattern_items.specs.declared.shape.Shape.{Shape}

@@ -1,5 +1,5 @@
 //! The index.
-ghost use Rattle.std.specs.Prelude.{◌≡◌, ◌<◌, ◌+◌, ◌^◌, ◌-◌, ◌++◌, ◌∷◌, [], None, false, length, OnOk, OnErr};
+ghost use Rattle.std.specs.Prelude.{◌≡◌, ◌<◌, ◌+◌, ◌^◌, ◌-◌, ◌++◌, ◌∷◌, [], None, false, length, IfOk, OnOk, OnErr};
 ghost use Rattle.std.specs.Option.{option_map};
 ghost use Rattle.flow_rules.specs.Best as spec;
 ghost use Rattle.flow_rules.specs.RuleView.{RuleView};
@@ -77,17 +77,17 @@ fn make_room(
 }
 
 impl RuleIndex {
-    /// Without rules. It takes no memory.
-    pub fn new(alloc: Global) -> RuleIndex
-        ensures { result ≡ no_rules }
+    /// Without rules.
+    pub fn new(alloc: Global) -> Result<RuleIndex, AllocError>
+        ensures { IfOk result (λ index. index ≡ no_rules) }
     {
-        RuleIndex {
+        Ok(RuleIndex {
             alloc,
             slots: Vec::new(alloc),
             finder: Finder::new(alloc),
             count: 0,
             inserts: 0,
-        }
+        })
     }
 
     /// Puts a copy of the rule behind the others.

@@ -5,7 +5,7 @@
 //! thousands of rules it takes far longer than all else that is done to a frame.
 //!
 //! ```text
-//! let mut index = RuleIndex::new(alloc);
+//! let mut index = RuleIndex::new(alloc)?;
 //! index.insert(&rule)?;               // group 0 priority 1 pattern ipv4 dst is 10.1.2.4 / end
 //! index.best(0, &parse(frame));       // its id, of a frame to 10.1.2.4
 //! index.remove(7);                    // the rule of id 7

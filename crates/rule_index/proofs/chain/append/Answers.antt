@@ -1,4 +1,4 @@
-use Rattle.std.proofs.Common.{◌≡◌, ℕ, ◌++◌, ◌∷◌, [], List, length, take, arith, refl, ap, sym, subst, ◌∙◌}
+use Rattle.std.proofs.Common.{◌≡◌, ◌++◌, ◌∷◌, [], List, length, ap, sym, ◌∙◌}
 use Rattle.rule_index.specs.declared.chain.RulePlace.{RulePlace}
 use Rattle.rule_index.specs.Places.{linked_by}
 use Rattle.rule_index.proofs.Growth.{linked_length, lent_back}

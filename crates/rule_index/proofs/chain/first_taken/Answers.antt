@@ -1,4 +1,4 @@
-use Rattle.std.proofs.Common.{◌≡◌, ℕ, ◌<◌, length, get_or, Option, None, Some, arith, ◌∙◌, sym, ap, subst}
+use Rattle.std.proofs.Common.{ℕ, ◌<◌, length, get_or, Option, None, arith, ◌∙◌, sym, subst}
 use Rattle.std.proofs.lemmas.Option.{slice_get-get_or}
 use Rattle.std.specs.Option.{option_copied}
 use Rattle.rule_index.specs.declared.chain.RulePlace.{RulePlace}

@@ -1,13 +1,9 @@
-use Rattle.std.proofs.Common.{◌≡◌, ◌≤◌, ◌<◌, ℕ, List, Option, length, arith, refl, ap, sym, ◌∙◌, ◌++◌, ◌∷◌, [], None, Some, nat_eq, append-nil}
-use Rattle.std.proofs.lemmas.Bool.{ne_eqb}
+use Rattle.std.proofs.Common.{◌≡◌, ℕ, List, Option, length, arith, refl, ap, sym, ◌∙◌, ◌++◌, ◌∷◌, [], None, nat_eq}
 use Rattle.std.specs.HashMap as hash
-use Rattle.flow_rules.specs.RuleView.{RuleView}
 use Rattle.std.specs.Map.{lookup}
 use Rattle.rule_index.specs.declared.chain.RulePlace.{RulePlace}
 use Rattle.rule_index.specs.declared.chain.HomeChain.{HomeChain}
 use Rattle.rule_index.specs.declared.table.Home.{Home}
-use Rattle.rule_index.specs.declared.table.Table.{Table}
-use Rattle.rule_index.specs.Tables.{Grows}
 use Rattle.rule_index.specs.Places.{linked_by, last_of}
 use Rattle.rule_index.specs.Index.{chain_of, place_of}
 use Rattle.rule_index.proofs.Growth.{Indexed-push, Grows-none, on_err, stays}

@@ -1,4 +1,4 @@
-use Rattle.std.proofs.Common.{rules, ◌≡◌, ℕ, List, Option, is_some, filter, sym, ap, subst, ◌∙◌}
+use Rattle.std.proofs.Common.{rules, List, Option, is_some, filter, sym, ap, subst, ◌∙◌}
 use Rattle.std.proofs.lemmas.Fn.{filter_same}
 use Rattle.flow_rules.specs.RuleView.{RuleView}
 use Rattle.rule_index.specs.Index.{Indexed, chain_of, place_of, AreDistinct}

@@ -1,4 +1,4 @@
-use Rattle.std.proofs.Common.{◌≡◌, ◌<◌, length, arith, ap, ◌∙◌}
+use Rattle.std.proofs.Common.{◌≡◌, length, arith, ap, ◌∙◌}
 use Rattle.rule_index.specs.Rank.{present}
 use Rattle.rule_index.proofs.Renewal.{present_kept, kept_few}
 use Rattle.rule_index.proofs.index.make_room.Goals as goal

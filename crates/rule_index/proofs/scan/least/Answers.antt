@@ -1,10 +1,10 @@
-use Rattle.std.proofs.Common.{◌≡◌, ◌≤◌, ◌+◌, ℕ, List, Option, sym, ap, subst, length, arith, ◌∙◌, Some, None}
+use Rattle.std.proofs.Common.{◌≡◌, ◌≤◌, ◌+◌, ℕ, List, sym, ap, subst, length, arith, ◌∙◌, Some}
 use Rattle.std.proofs.lemmas.Option.{slice_get-get_or}
 use Rattle.std.specs.List.{slice_get}
 use Rattle.rule_index.specs.declared.table.Table.{Table}
-use Rattle.rule_index.specs.Rank.{IsSound, rank, lesser, IsTakenIn}
+use Rattle.rule_index.specs.Rank.{IsSound, IsTakenIn}
 use Rattle.rule_index.specs.Index.{chain_of, place_of}
-use Rattle.rule_index.proofs.Scans.{Covered, other_group, beaten, none_taken, one_taken, sound_taken, all_covered}
+use Rattle.rule_index.proofs.Scans.{Covered, other_group, beaten, one_taken, sound_taken, all_covered}
 use Rattle.rule_index.proofs.scan.least.Goals as goal
 
 pub taken_in-requires-clause-table : goal.taken_in-requires-clause-table

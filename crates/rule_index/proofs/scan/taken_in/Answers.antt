@@ -1,4 +1,4 @@
-use Rattle.std.proofs.Common.{◌≡◌, List, Option, sym, ap, subst, ◌∙◌, Some, None}
+use Rattle.std.proofs.Common.{List, Option, sym, ap, subst, ◌∙◌}
 use Rattle.std.specs.Option.{option_copied}
 use Rattle.packet_headers.specs.declared.items.LayerAt.{LayerAt}
 use Rattle.rule_index.specs.declared.chain.RulePlace.{RulePlace}

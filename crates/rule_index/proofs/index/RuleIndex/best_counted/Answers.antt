@@ -1,4 +1,4 @@
-use Rattle.std.proofs.Common.{◌≡◌, ℕ, List, Option, ap, subst, ◌∙◌}
+use Rattle.std.proofs.Common.{List, Option, ap, subst, ◌∙◌}
 use Rattle.std.specs.Option.{option_map}
 use Rattle.flow_rules.specs.Best as spec
 use Rattle.flow_rules.specs.RuleView.{RuleView}

@@ -1,4 +1,4 @@
-use Rattle.std.proofs.Common.{◌≡◌, ◌+◌, ℕ, List, ◌++◌, ◌∷◌, [], length, length-append, arith, ap, sym, ◌∙◌}
+use Rattle.std.proofs.Common.{◌≡◌, ◌+◌, List, ◌++◌, ◌∷◌, [], length, length-append, arith, ap, ◌∙◌}
 use Rattle.flow_rules.specs.RuleView.{RuleView}
 use Rattle.rule_index.specs.IndexView.{IndexView, named}
 use Rattle.rule_index.specs.Rank.{present}

@@ -1,4 +1,4 @@
-use Rattle.std.proofs.Common.{◌≡◌, ℕ, List, Option, None, Some, ap, sym, subst, ◌∙◌}
+use Rattle.std.proofs.Common.{List, Option, ap, subst, ◌∙◌}
 use Rattle.std.specs.List.{slice_get}
 use Rattle.flow_rules.specs.RuleView.{RuleView}
 use Rattle.rule_index.specs.IndexView.{IndexView, named}
