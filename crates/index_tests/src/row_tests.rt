@@ -6,7 +6,7 @@ use flow_rules::Rule;
 use packet_headers::{ItemKind, Key, parse};
 use pattern_items::Fields;
 use rule_index::RuleIndex;
-use std::alloc::AllocError;
+use std::alloc::{AllocError, Global};
 use std::process::Abort;
 use std::test::Fail;
 use test_frames::{IPV6_FRAME, UDP_FRAME};
@@ -65,6 +65,15 @@ fn take_step(rt: &impl Abort, index: &mut RuleIndex, step: &Step) -> Result<(), 
     }
 }
 
+/// An index after these steps.
+fn index_behind(rt: &impl Abort, alloc: Global, steps: &[Step]) -> Result<RuleIndex, AllocError> {
+    let mut index = RuleIndex::new(alloc)?;
+    for step in steps {
+        take_step(rt, &mut index, step)?;
+    }
+    Ok(index)
+}
+
 #[test]
 fn equal_priorities_keep_the_order_of_inserts(rt: HostRuntime) -> Result<(), Fail> {
     use Step::{Clear, Put, Remove};
@@ -86,10 +95,7 @@ fn equal_priorities_keep_the_order_of_inserts(rt: HostRuntime) -> Result<(), Fai
         ("no items", &[Put(8), Put(4)], Some(8)),
     ];
     for (name, steps, want) in rows {
-        let mut index = RuleIndex::new(rt.alloc())?;
-        for step in steps {
-            take_step(&rt, &mut index, step)?;
-        }
+        let index = index_behind(&rt, rt.alloc(), steps)?;
         assert_eq!(rt; index.best(0, &key), want, "{name}");
     }
     Ok(())
