@@ -1,0 +1,22 @@
+//! The rules in effect, in the order in which they took effect, each with its table and what its own COUNT has counted.
+//!
+//! **Model.** Contracts see a list of entries, no two of which have one id, and for how many more there is memory.
+//!
+//! A rule takes effect behind all others (`push`) and goes by its id (`remove`) or as the earliest (`pop_first`). Frames ask for
+//! the best rule of a group and raise its count. Memory is taken ahead, by `reserve`: a rule that was accepted takes effect
+//! without any, so the same call can't fail half done.
+//!
+//! The order of effect is kept, since among rules of one priority the earlier takes a frame (`best`), and a list of all rules
+//! shows it. It isn't the order of ids: a rule may get its id long before it takes effect.
+//!
+//! `specs/Entries` has the words of the contracts, `specs/RulesView` what they see of all rules. `proofs/Distinct` tells what
+//! ids do to lists of entries, for callers to cite.
+#![tactic(auto)]
+
+mod in_effect;
+mod place;
+mod rules;
+mod scan;
+
+pub use in_effect::InEffect;
+pub use rules::RulesInEffect;
