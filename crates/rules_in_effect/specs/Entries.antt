@@ -1,9 +1,10 @@
 -- Lists of rules in effect, each with its table and its count.
 use Rattle.std.specs.Prelude.{◌≡◌, ℕ, ◌+◌, ◌-◌, ◌<◌, ◌^◌, Bool, not, map, filter, if◌then◌else◌, List, [], ◌∷◌, Option, None, Some}
-use Rattle.std.specs.List.{slice_get}
+use Rattle.std.specs.List.{slice_get, list_any}
 use Rattle.std.specs.Option.{is_none}
 use Rattle.flow_rules.specs.RuleView.{RuleView}
 use Rattle.flow_rules.specs.Changes.{has_id}
+use Rattle.flow_rules.specs.Faults.{is_shared}
 use Rattle.rules_in_effect.specs.declared.in_effect.InEffect.{InEffect}
 
 -- the rule alone, as frames see it
@@ -13,6 +14,10 @@ rule_in entry = entry.rule
 -- a rule that stands in no table
 abbrev pub is_plain : InEffect → Bool
 is_plain entry = is_none entry.table
+
+-- its rule uses the shared action of this id
+abbrev pub is_user : ℕ → InEffect → Bool
+is_user id entry = list_any (is_shared id) entry.rule.actions
 
 -- the first entry whose rule has this id
 abbrev pub entry_at : ℕ → List InEffect → Option InEffect

@@ -1,13 +1,14 @@
 //! The rules in effect.
 ghost use Rattle.std.specs.Prelude.{◌≡◌, ◌+◌, ◌≤◌, [], ◌∷◌, ◌++◌, None, length, map, drop, slice_get, count_by, IfOk, OnOk};
 ghost use Rattle.std.specs.Option.{option_copied, option_map};
+ghost use Rattle.std.specs.List.{list_any};
 ghost use Rattle.flow_rules.specs.Best as spec;
 ghost use Rattle.flow_rules.specs.Naming.{HaveOwnIds};
-ghost use Rattle.rules_in_effect.specs.Entries.{rule_in, is_plain, entry_at, without, raised, AreDistinct, CanCount};
+ghost use Rattle.rules_in_effect.specs.Entries.{rule_in, is_plain, is_user, entry_at, without, raised, AreDistinct, CanCount};
 
 use crate::in_effect::{InEffect, hit};
 use crate::place::{place_of, rows_of};
-use crate::scan::{best_of, plain_in};
+use crate::scan::{best_of, is_user, plain_in};
 use flow_rules::{Count, Rule};
 use packet_headers::Key;
 use std::alloc::{AllocError, Global};
@@ -98,6 +99,20 @@ impl RulesInEffect {
             return None;
         }
         Some(self.entries.remove(0))
+    }
+
+    /// All rules go.
+    pub fn clear(&mut self)
+        ensures { self.new.list ≡ [] }
+    {
+        self.entries.clear();
+    }
+
+    /// Whether a rule uses the shared action of this id.
+    pub fn is_used(&self, id: u32) -> bool
+        ensures { result ≡ list_any (is_user id) self.now.list }
+    {
+        self.entries.iter().any(|entry| is_user(entry, id))
     }
 
     /// The rule of this id, if it is in effect.
