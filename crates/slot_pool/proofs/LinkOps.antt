@@ -3,15 +3,16 @@ use Rattle.std.proofs.Common.{◌≡◌, ◌≢◌, ℕ, List, [], ◌∷◌, �
 use Rattle.slot_pool.specs.declared.handle.Handle.{Handle}
 use Rattle.slot_pool.specs.declared.chain.Chain.{Chain}
 use Rattle.slot_pool.specs.declared.chain.Link.{Link}
+use Rattle.slot_pool.specs.declared.chain.Side.TheVariants as sides
 use Rattle.slot_pool.specs.declared.place.Place.{Place}
 use Rattle.slot_pool.specs.Links.{Links, link_of, members, first_or, last_or, Joins, IsChain, IsUnchained, KeepsOthers, is_other}
 use Rattle.slot_pool.specs.Pool.{Lives}
-use Rattle.slot_pool.specs.Place.{held_at, link_in, links_from, pool_of, IsSound, with_link, with_next, with_previous, next_changed, previous_changed, with_last, without_link, or_handle, end_without}
+use Rattle.slot_pool.specs.Place.{held_at, link_in, links_from, pool_of, IsSound, with_link, with_neighbour, link_changed, with_last, without_link, or_handle, end_without}
 use Rattle.std.proofs.lemmas.List.Elements.{Contains-append_left, Contains-append_right}
 use Rattle.slot_pool.proofs.Joined.{Contains-head, Contains-tail, Contains-split, Joins-split, Joins-linked, members-joined, IsChain-joined, KeepsOthers-from, filter-without, parts_are_apart, head_is_once}
 use Rattle.slot_pool.proofs.Relinked.{Sets, SetsAt, Joins-linked_last, Joins-unlinked, last_is_member, first_is_member, first-with_last, last_or-push, first-without, last-without}
 use Rattle.slot_pool.proofs.Neighbours.{link_of-links_from}
-use Rattle.slot_pool.proofs.WithLink.{StillHolds, StillHolds-then, StillHolds-with_link, StillHolds-with_next, StillHolds-with_previous, Sets-with_link, SetsAt-with_next, SetsAt-with_previous, held_from_link, held_from_lives, held_at-with_next_other, held_at-with_previous_other}
+use Rattle.slot_pool.proofs.WithLink.{StillHolds, StillHolds-then, StillHolds-with_link, StillHolds-with_neighbour, Sets-with_link, SetsAt-with_neighbour, held_from_link, held_from_lives, held_at-with_neighbour_other}
 
 -- where a change at an option's handle leaves others as they were
 SetsAt-other : (at now : Handle → Option Link) (handle : Option Handle) (change : Option Link → Option Link) (q : Handle) → SetsAt at now handle change → (handle ≡ Some q → ⊥) → now q ≡ at q
@@ -30,29 +31,29 @@ module _ {T : Type 0} (ps : List (Place T)) (free : Option ℕ) (puts : ℕ) (so
   is_linked q p = Joins-linked (link_of (links_from 0 ps)) None (members (links_from 0 ps) chain) None q is_chain.joined p
 
   abbrev pub after_link : List (Place T)
-  after_link = with_link (with_next ps chain.last (Some handle)) handle (Some (record { previous = chain.last; next = None }))
+  after_link = with_link (with_neighbour ps chain.last sides.Next (Some handle)) handle (Some (record { previous = chain.last; next = None }))
 
   pub StillHolds-link : StillHolds ps after_link free puts
   StillHolds-link =
-      let first = StillHolds-with_next ps free puts chain.last (Some handle) sound in
+      let first = StillHolds-with_neighbour ps free puts chain.last sides.Next (Some handle) sound in
       StillHolds-then ps _ after_link free puts first (StillHolds-with_link _ free puts handle _ first.sound)
 
   pub Rechains-link : Lives (pool_of ps puts) handle → IsUnchained (links_from 0 ps) handle → Rechains (links_from 0 ps) (links_from 0 after_link) (members (links_from 0 ps) chain) (members (links_from 0 ps) chain ++ handle ∷ []) (with_last chain handle) handle
   Rechains-link lives unchained =
       let xs = members (links_from 0 ps) chain in
       let old = link_of (links_from 0 ps) in
-      let qs = with_next ps chain.last (Some handle) in
+      let qs = with_neighbour ps chain.last sides.Next (Some handle) in
       let middle = link_of (links_from 0 qs) in
       let new = link_of (links_from 0 after_link) in
       let off : (q : Handle) → chain.last ≡ Some q → q ≢ handle = λ q ends same.
       let link = is_linked q (last_is_member xs q (sym is_chain.last ∙ ends)) in
       let there : old handle ≡ Some link.0 = ap old (sym same) ∙ link.1 in
       cc in
-      let first : SetsAt old middle chain.last (next_changed (Some handle)) = SetsAt-with_next ps chain.last (Some handle) (λ q ends. is_linked q (last_is_member xs q (sym is_chain.last ∙ ends))) in
+      let first : SetsAt old middle chain.last (link_changed sides.Next (Some handle)) = SetsAt-with_neighbour ps chain.last sides.Next (Some handle) (λ q ends. is_linked q (last_is_member xs q (sym is_chain.last ∙ ends))) in
       let held = held_from_lives ps free puts handle sound lives in
-      let kept : held_at qs handle ≡ Some held.0 = held_at-with_next_other ps chain.last (Some handle) handle (λ same. off handle same refl) ∙ held.1 in
+      let kept : held_at qs handle ≡ Some held.0 = held_at-with_neighbour_other ps chain.last sides.Next (Some handle) handle (λ same. off handle same refl) ∙ held.1 in
       let second : Sets middle new handle (Some (record { previous = chain.last; next = None })) = Sets-with_link qs handle _ held.0 kept in
-      let first_there : SetsAt old middle (last_or None xs) (next_changed (Some handle)) = subst (λ (o : Option Handle). SetsAt old middle o (next_changed (Some handle))) is_chain.last first in
+      let first_there : SetsAt old middle (last_or None xs) (link_changed sides.Next (Some handle)) = subst (λ (o : Option Handle). SetsAt old middle o (link_changed sides.Next (Some handle))) is_chain.last first in
       let second_there : Sets middle new handle (Some (record { previous = last_or None xs; next = None })) = subst (λ (o : Option Handle). Sets middle new handle (Some (record { previous = o; next = None }))) is_chain.last second in
       let joined = Joins-linked_last old middle new xs handle is_chain.joined unchained first_there second_there in
       let begins : (with_last chain handle).first ≡ first_or (xs ++ handle ∷ []) None = ap (λ (o : Option Handle). or_handle o handle) is_chain.first ∙ first-with_last xs handle in
@@ -66,13 +67,13 @@ module _ {T : Type 0} (ps : List (Place T)) (free : Option ℕ) (puts : ℕ) (so
       }
 
   abbrev pub after_unlink : Link → List (Place T)
-  after_unlink link = with_link (with_previous (with_next ps link.previous link.next) link.next link.previous) handle None
+  after_unlink link = with_link (with_neighbour (with_neighbour ps link.previous sides.Next link.next) link.next sides.Previous link.previous) handle None
 
   pub StillHolds-unlink : (link : Link) → StillHolds ps (after_unlink link) free puts
   StillHolds-unlink link =
-      let first = StillHolds-with_next ps free puts link.previous link.next sound in
-      let second = StillHolds-with_previous (with_next ps link.previous link.next) free puts link.next link.previous first.sound in
-      let third = StillHolds-with_link (with_previous (with_next ps link.previous link.next) link.next link.previous) free puts handle None second.sound in
+      let first = StillHolds-with_neighbour ps free puts link.previous sides.Next link.next sound in
+      let second = StillHolds-with_neighbour (with_neighbour ps link.previous sides.Next link.next) free puts link.next sides.Previous link.previous first.sound in
+      let third = StillHolds-with_link (with_neighbour (with_neighbour ps link.previous sides.Next link.next) link.next sides.Previous link.previous) free puts handle None second.sound in
       StillHolds-then ps _ (after_unlink link) free puts first (StillHolds-then _ _ (after_unlink link) free puts second third)
 
   pub Rechains-unlink : (link : Link) → Contains (members (links_from 0 ps) chain) handle → link_in (held_at ps handle) ≡ Some link → Rechains (links_from 0 ps) (links_from 0 (after_unlink link)) (members (links_from 0 ps) chain) (filter (is_other handle) (members (links_from 0 ps) chain)) (without_link chain link) handle × IsUnchained (links_from 0 (after_unlink link)) handle
@@ -82,8 +83,8 @@ module _ {T : Type 0} (ps : List (Place T)) (free : Option ℕ) (puts : ℕ) (so
       let front = split.0 in
       let back = split.1 in
       let old = link_of (links_from 0 ps) in
-      let ps1 = with_next ps link.previous link.next in
-      let ps2 = with_previous ps1 link.next link.previous in
+      let ps1 = with_neighbour ps link.previous sides.Next link.next in
+      let ps2 = with_neighbour ps1 link.next sides.Previous link.previous in
       let one = link_of (links_from 0 ps1) in
       let two = link_of (links_from 0 ps2) in
       let new = link_of (links_from 0 (after_unlink link)) in
@@ -99,17 +100,17 @@ module _ {T : Type 0} (ps : List (Place T)) (free : Option ℕ) (puts : ℕ) (so
       let apart : (q : Handle) → Contains front q → Contains (handle ∷ back) q → ⊥ = λ q a b. parts_are_apart old None front (handle ∷ back) q joined a b in
       let member_front : (q : Handle) → Contains front q → Contains xs q = λ q a. subst (λ (l : List Handle). Contains l q) (sym split.2) (Contains-append_left front (handle ∷ back) q a) in
       let member_back : (q : Handle) → Contains back q → Contains xs q = λ q a. subst (λ (l : List Handle). Contains l q) (sym split.2) (Contains-append_right front (handle ∷ back) q (Contains-tail handle q back a)) in
-      let first : SetsAt old one link.previous (next_changed link.next) = SetsAt-with_next ps link.previous link.next (λ q e. is_linked q (member_front q (in_front q e))) in
-      let second : SetsAt one two link.next (previous_changed link.previous) = SetsAt-with_previous ps1 link.next link.previous (λ q e.
+      let first : SetsAt old one link.previous (link_changed sides.Next link.next) = SetsAt-with_neighbour ps link.previous sides.Next link.next (λ q e. is_linked q (member_front q (in_front q e))) in
+      let second : SetsAt one two link.next (link_changed sides.Previous link.previous) = SetsAt-with_neighbour ps1 link.next sides.Previous link.previous (λ q e.
       let was = is_linked q (member_back q (behind q e)) in
       (was.0, SetsAt-other old one link.previous _ q first (λ same. apart q (in_front q same) (Contains-tail handle q back (behind q e))) ∙ was.1)) in
       let not_previous : link.previous ≡ Some handle → ⊥ = λ same. apart handle (in_front handle same) (Contains-head handle back) in
       let not_next : link.next ≡ Some handle → ⊥ = λ same. head_is_once old _ handle back parts.1 (behind handle same) in
       let held = held_from_link ps handle link found in
-      let kept : held_at ps2 handle ≡ Some held.0 = held_at-with_previous_other ps1 link.next link.previous handle not_next ∙ held_at-with_next_other ps link.previous link.next handle not_previous ∙ held.1 in
+      let kept : held_at ps2 handle ≡ Some held.0 = held_at-with_neighbour_other ps1 link.next sides.Previous link.previous handle not_next ∙ held_at-with_neighbour_other ps link.previous sides.Next link.next handle not_previous ∙ held.1 in
       let third : Sets two new handle None = Sets-with_link ps2 handle None held.0 kept in
-      let first_there : SetsAt old one (last_or None front) (next_changed (first_or back None)) = subst (λ (l : Link). SetsAt old one l.previous (next_changed l.next)) link_is first in
-      let second_there : SetsAt one two (first_or back None) (previous_changed (last_or None front)) = subst (λ (l : Link). SetsAt one two l.next (previous_changed l.previous)) link_is second in
+      let first_there : SetsAt old one (last_or None front) (link_changed sides.Next (first_or back None)) = subst (λ (l : Link). SetsAt old one l.previous (link_changed sides.Next l.next)) link_is first in
+      let second_there : SetsAt one two (first_or back None) (link_changed sides.Previous (last_or None front)) = subst (λ (l : Link). SetsAt one two l.next (link_changed sides.Previous l.previous)) link_is second in
       let now_joined = Joins-unlinked old one two new front handle back joined first_there second_there third in
       let begins : (without_link chain link).first ≡ first_or (front ++ back) None =
       ap (λ (l : Link). end_without l.previous l.next chain.first) link_is ∙ ap (end_without (last_or None front) (first_or back None)) (is_chain.first ∙ ap (λ (l : List Handle). first_or l None) split.2) ∙ first-without front handle back in

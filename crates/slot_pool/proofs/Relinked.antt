@@ -4,8 +4,9 @@ use Rattle.std.proofs.lemmas.List.Elements.{Contains-push}
 use Rattle.std.proofs.lemmas.List.{append_assoc, append-nil}
 use Rattle.slot_pool.specs.declared.handle.Handle.{Handle}
 use Rattle.slot_pool.specs.declared.chain.Link.{Link}
+use Rattle.slot_pool.specs.declared.chain.Side.TheVariants as sides
 use Rattle.slot_pool.specs.Links.{first_or, last_or, Joins}
-use Rattle.slot_pool.specs.Place.{next_changed, previous_changed, or_handle, end_without}
+use Rattle.slot_pool.specs.Place.{link_changed, or_handle, end_without}
 use Rattle.slot_pool.proofs.Joined.{Contains-head, Contains-tail, last_cases, last_or-append, Joins-split, Joins-append, Joins-linked, Joins-kept, head_is_once, parts_are_apart}
 
 -- `now` has this link at the handle, and else what `at` has
@@ -31,7 +32,7 @@ kept_at at now None change before xs after sets absent joined = Joins-kept at no
 kept_at at now (Some handle) change before xs after sets absent joined = kept_elsewhere at now handle _ before xs after sets (absent handle refl) joined
 
 -- the last handle of a list gets another one behind it
-next_set : (at now : Handle → Option Link) (xs : List Handle) (after next : Option Handle) → ((q : Handle) (front : List Handle) → xs ≡ front ++ q ∷ [] → Contains front q → ⊥) → SetsAt at now (last_or None xs) (next_changed next) → Joins at None xs after → Joins now None xs next
+next_set : (at now : Handle → Option Link) (xs : List Handle) (after next : Option Handle) → ((q : Handle) (front : List Handle) → xs ≡ front ++ q ∷ [] → Contains front q → ⊥) → SetsAt at now (last_or None xs) (link_changed sides.Next next) → Joins at None xs after → Joins now None xs next
 next_set at now xs after next once sets joined =
     elim (last_cases xs) [
       | inl none ↦ subst (λ (l : List Handle). Joins now None l next) (sym none) tt
@@ -39,26 +40,26 @@ next_set at now xs after next once sets joined =
           let front = some.0 in
           let x = some.1 in
           let ends : last_or None xs ≡ Some x = ap (last_or None) some.2 ∙ last_or-push None front x in
-          let set : Sets at now x (next_changed next (at x)) = subst (λ (o : Option Handle). SetsAt at now o (next_changed next)) ends sets in
+          let set : Sets at now x (link_changed sides.Next next (at x)) = subst (λ (o : Option Handle). SetsAt at now o (link_changed sides.Next next)) ends sets in
           let whole : Joins at None (front ++ x ∷ []) after = subst (λ (l : List Handle). Joins at None l after) some.2 joined in
           let parts = Joins-split at None front (x ∷ []) after whole in
           let start = kept_elsewhere at now x _ None front (Some x) set (once x front some.2) parts.0 in
-          let end : now x ≡ Some (record { previous = last_or None front; next = next }) = set.here ∙ ap (next_changed next) parts.1.0 in
+          let end : now x ≡ Some (record { previous = last_or None front; next = next }) = set.here ∙ ap (link_changed sides.Next next) parts.1.0 in
           subst (λ (l : List Handle). Joins now None l next) (sym some.2) (Joins-append now None front (x ∷ []) next start (end, tt))
     ]
 
 -- the first handle of a list gets another one in front of it
-previous_set : (at now : Handle → Option Link) (before previous : Option Handle) (xs : List Handle) → SetsAt at now (first_or xs None) (previous_changed previous) → Joins at before xs None → Joins now previous xs None
+previous_set : (at now : Handle → Option Link) (before previous : Option Handle) (xs : List Handle) → SetsAt at now (first_or xs None) (link_changed sides.Previous previous) → Joins at before xs None → Joins now previous xs None
 previous_set at now before previous [] sets joined = tt
 previous_set at now before previous (x ∷ xs) sets joined =
-    (sets.here ∙ ap (previous_changed previous) joined.0, kept_elsewhere at now x _ (Some x) xs None sets (head_is_once at before x xs joined) joined.1)
+    (sets.here ∙ ap (link_changed sides.Previous previous) joined.0, kept_elsewhere at now x _ (Some x) xs None sets (head_is_once at before x xs joined) joined.1)
 
 once_at_end : (at : Handle → Option Link) (xs : List Handle) → Joins at None xs None → (q : Handle) (front : List Handle) → xs ≡ front ++ q ∷ [] → Contains front q → ⊥
 once_at_end at xs joined q front split p =
     parts_are_apart at None front (q ∷ []) q (subst (λ (l : List Handle). Joins at None l None) split joined) p (Contains-head q [])
 
 -- a handle that was in no list comes last
-pub Joins-linked_last : (at middle now : Handle → Option Link) (xs : List Handle) (handle : Handle) → Joins at None xs None → at handle ≡ None → SetsAt at middle (last_or None xs) (next_changed (Some handle)) → Sets middle now handle (Some (record { previous = last_or None xs; next = None })) → Joins now None (xs ++ handle ∷ []) None
+pub Joins-linked_last : (at middle now : Handle → Option Link) (xs : List Handle) (handle : Handle) → Joins at None xs None → at handle ≡ None → SetsAt at middle (last_or None xs) (link_changed sides.Next (Some handle)) → Sets middle now handle (Some (record { previous = last_or None xs; next = None })) → Joins now None (xs ++ handle ∷ []) None
 Joins-linked_last at middle now xs handle joined absent first second =
     let off : Contains xs handle → ⊥ = λ p. let link = Joins-linked at None xs None handle joined p in let some = link.1 in cc in
     let start = next_set at middle xs None (Some handle) (once_at_end at xs joined) first joined in
@@ -80,7 +81,7 @@ first_is_member [] q begins = absurd (cc)
 first_is_member (x ∷ xs) q begins = let same : x ≡ q = cc in subst (λ (h : Handle). Contains (x ∷ xs) h) same (Contains-head x xs)
 
 -- a handle between two lists goes out
-pub Joins-unlinked : (at one two now : Handle → Option Link) (front : List Handle) (handle : Handle) (back : List Handle) → Joins at None (front ++ handle ∷ back) None → SetsAt at one (last_or None front) (next_changed (first_or back None)) → SetsAt one two (first_or back None) (previous_changed (last_or None front)) → Sets two now handle None → Joins now None (front ++ back) None
+pub Joins-unlinked : (at one two now : Handle → Option Link) (front : List Handle) (handle : Handle) (back : List Handle) → Joins at None (front ++ handle ∷ back) None → SetsAt at one (last_or None front) (link_changed sides.Next (first_or back None)) → SetsAt one two (first_or back None) (link_changed sides.Previous (last_or None front)) → Sets two now handle None → Joins now None (front ++ back) None
 Joins-unlinked at one two now front handle back joined first second third =
     let parts = Joins-split at None front (handle ∷ back) None joined in
     let apart : (q : Handle) → Contains front q → Contains (handle ∷ back) q → ⊥ = λ q p r. parts_are_apart at None front (handle ∷ back) q joined p r in
@@ -90,8 +91,8 @@ Joins-unlinked at one two now front handle back joined first second third =
     let rest = Joins-split at None start (q ∷ handle ∷ back) None (subst (λ (l : List Handle). Joins at None l None) (append_assoc start (q ∷ []) (handle ∷ back)) all) in
     parts_are_apart at None start (q ∷ handle ∷ back) q (Joins-append at None start (q ∷ handle ∷ back) None rest.0 rest.1) p (Contains-head q (handle ∷ back)) in
     let front_one : Joins one None front (first_or back None) = next_set at one front (Some handle) (first_or back None) once first parts.0 in
-    let back_one : Joins one (Some handle) back None = kept_at at one (last_or None front) (next_changed (first_or back None)) (Some handle) back None first (λ q ends p. apart q (last_is_member front q ends) (Contains-tail handle q back p)) parts.1.1 in
-    let front_two : Joins two None front (first_or back None) = kept_at one two (first_or back None) (previous_changed (last_or None front)) None front (first_or back None) second (λ q begins p. apart q p (Contains-tail handle q back (first_is_member back q begins))) front_one in
+    let back_one : Joins one (Some handle) back None = kept_at at one (last_or None front) (link_changed sides.Next (first_or back None)) (Some handle) back None first (λ q ends p. apart q (last_is_member front q ends) (Contains-tail handle q back p)) parts.1.1 in
+    let front_two : Joins two None front (first_or back None) = kept_at one two (first_or back None) (link_changed sides.Previous (last_or None front)) None front (first_or back None) second (λ q begins p. apart q p (Contains-tail handle q back (first_is_member back q begins))) front_one in
     let back_two : Joins two (last_or None front) back None = previous_set one two (Some handle) (last_or None front) back second back_one in
     let front_now : Joins now None front (first_or back None) = kept_elsewhere two now handle None None front (first_or back None) third (λ p. apart handle p (Contains-head handle back)) front_two in
     let back_now : Joins now (last_or None front) back None = kept_elsewhere two now handle None (last_or None front) back None third (head_is_once at _ handle back parts.1) back_two in

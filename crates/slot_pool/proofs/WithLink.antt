@@ -3,12 +3,13 @@ use Rattle.std.proofs.Common.{◌≡◌, ◌≢◌, ℕ, List, length, Option, S
 use Rattle.std.proofs.lemmas.Bool.{cases_eq}
 use Rattle.slot_pool.specs.declared.handle.Handle.{Handle}
 use Rattle.slot_pool.specs.declared.chain.Link.{Link}
+use Rattle.slot_pool.specs.declared.chain.Side.{Side}
 use Rattle.slot_pool.specs.declared.place.Resident.{Resident}
 use Rattle.slot_pool.specs.declared.place.Place.{Place}
 use Rattle.slot_pool.specs.declared.place.Place.TheVariants.{Filled}
 use Rattle.slot_pool.specs.Pool.{Lives}
 use Rattle.slot_pool.specs.Links.{link_of}
-use Rattle.slot_pool.specs.Place.{pool_of, held_under, held_at, place_at, value_of, link_in, values_below, links_from, IsSound, relinked, with_link, with_changed, with_next, with_previous, next_changed, previous_changed}
+use Rattle.slot_pool.specs.Place.{pool_of, held_under, held_at, place_at, value_of, link_in, values_below, links_from, IsSound, relinked, with_link, with_changed, with_neighbour, link_changed}
 use Rattle.slot_pool.proofs.Handles.{option_cases, Handle-same}
 use Rattle.slot_pool.proofs.Places.{held_under-some, held_under-filled, held_under-other, within}
 use Rattle.slot_pool.proofs.Sound.{place_at-set_same, place_at-set_other, lookup-values}
@@ -105,41 +106,24 @@ module _ {T : Type 0} where
   StillHolds-with_changed ps free puts handle None sound = StillHolds-same ps free puts sound
   StillHolds-with_changed ps free puts handle (Some link) sound = StillHolds-with_link ps free puts handle (Some link) sound
 
-  pub StillHolds-with_next : (ps : List (Place T)) (free : Option ℕ) (puts : ℕ) (at next : Option Handle) → IsSound ps free puts → StillHolds ps (with_next ps at next) free puts
-  StillHolds-with_next ps free puts None next sound = StillHolds-same ps free puts sound
-  StillHolds-with_next ps free puts (Some handle) next sound = StillHolds-with_changed ps free puts handle _ sound
-
-  pub StillHolds-with_previous : (ps : List (Place T)) (free : Option ℕ) (puts : ℕ) (at previous : Option Handle) → IsSound ps free puts → StillHolds ps (with_previous ps at previous) free puts
-  StillHolds-with_previous ps free puts None previous sound = StillHolds-same ps free puts sound
-  StillHolds-with_previous ps free puts (Some handle) previous sound = StillHolds-with_changed ps free puts handle _ sound
+  pub StillHolds-with_neighbour : (ps : List (Place T)) (free : Option ℕ) (puts : ℕ) (at : Option Handle) (side : Side) (neighbour : Option Handle) → IsSound ps free puts → StillHolds ps (with_neighbour ps at side neighbour) free puts
+  StillHolds-with_neighbour ps free puts None side neighbour sound = StillHolds-same ps free puts sound
+  StillHolds-with_neighbour ps free puts (Some handle) side neighbour sound = StillHolds-with_changed ps free puts handle _ sound
 
   -- a chained handle gets another neighbour
-  pub SetsAt-with_next : (ps : List (Place T)) (at next : Option Handle) → ((q : Handle) → at ≡ Some q → (link : Link) × (link_of (links_from 0 ps) q ≡ Some link)) → SetsAt (link_of (links_from 0 ps)) (link_of (links_from 0 (with_next ps at next))) at (next_changed next)
-  SetsAt-with_next ps None next linked = λ q. refl
-  SetsAt-with_next ps (Some handle) next linked =
+  pub SetsAt-with_neighbour : (ps : List (Place T)) (at : Option Handle) (side : Side) (neighbour : Option Handle) → ((q : Handle) → at ≡ Some q → (link : Link) × (link_of (links_from 0 ps) q ≡ Some link)) → SetsAt (link_of (links_from 0 ps)) (link_of (links_from 0 (with_neighbour ps at side neighbour))) at (link_changed side neighbour)
+  SetsAt-with_neighbour ps None side neighbour linked = λ q. refl
+  SetsAt-with_neighbour ps (Some handle) side neighbour linked =
       let link = linked handle refl in
       let held = held_from_link ps handle link.0 link.1 in
       let found : link_in (held_at ps handle) ≡ Some link.0 = sym (link_of-links_from ps handle) ∙ link.1 in
-      let written : with_next ps (Some handle) next ≡ with_link ps handle (next_changed next (Some link.0)) = ap (λ (o : Option Link). with_changed ps handle (next_changed next o)) found in
-      rw (link.1, written) (Sets-with_link ps handle (next_changed next (Some link.0)) held.0 held.1)
-
-  pub SetsAt-with_previous : (ps : List (Place T)) (at previous : Option Handle) → ((q : Handle) → at ≡ Some q → (link : Link) × (link_of (links_from 0 ps) q ≡ Some link)) → SetsAt (link_of (links_from 0 ps)) (link_of (links_from 0 (with_previous ps at previous))) at (previous_changed previous)
-  SetsAt-with_previous ps None previous linked = λ q. refl
-  SetsAt-with_previous ps (Some handle) previous linked =
-      let link = linked handle refl in
-      let held = held_from_link ps handle link.0 link.1 in
-      let found : link_in (held_at ps handle) ≡ Some link.0 = sym (link_of-links_from ps handle) ∙ link.1 in
-      let written : with_previous ps (Some handle) previous ≡ with_link ps handle (previous_changed previous (Some link.0)) = ap (λ (o : Option Link). with_changed ps handle (previous_changed previous o)) found in
-      rw (link.1, written) (Sets-with_link ps handle (previous_changed previous (Some link.0)) held.0 held.1)
+      let written : with_neighbour ps (Some handle) side neighbour ≡ with_link ps handle (link_changed side neighbour (Some link.0)) = ap (λ (o : Option Link). with_changed ps handle (link_changed side neighbour o)) found in
+      rw (link.1, written) (Sets-with_link ps handle (link_changed side neighbour (Some link.0)) held.0 held.1)
 
   held_at-with_changed_other : (ps : List (Place T)) (handle q : Handle) (link : Option Link) → q ≢ handle → held_at (with_changed ps handle link) q ≡ held_at ps q
   held_at-with_changed_other ps handle q None differs = refl
   held_at-with_changed_other ps handle q (Some link) differs = held_at-with_link_other ps handle q (Some link) differs
 
-  pub held_at-with_next_other : (ps : List (Place T)) (at next : Option Handle) (q : Handle) → (at ≡ Some q → ⊥) → held_at (with_next ps at next) q ≡ held_at ps q
-  held_at-with_next_other ps None next q differs = refl
-  held_at-with_next_other ps (Some handle) next q differs = held_at-with_changed_other ps handle q _ (λ same. differs (ap Some (sym same)))
-
-  pub held_at-with_previous_other : (ps : List (Place T)) (at previous : Option Handle) (q : Handle) → (at ≡ Some q → ⊥) → held_at (with_previous ps at previous) q ≡ held_at ps q
-  held_at-with_previous_other ps None previous q differs = refl
-  held_at-with_previous_other ps (Some handle) previous q differs = held_at-with_changed_other ps handle q _ (λ same. differs (ap Some (sym same)))
+  pub held_at-with_neighbour_other : (ps : List (Place T)) (at : Option Handle) (side : Side) (neighbour : Option Handle) (q : Handle) → (at ≡ Some q → ⊥) → held_at (with_neighbour ps at side neighbour) q ≡ held_at ps q
+  held_at-with_neighbour_other ps None side neighbour q differs = refl
+  held_at-with_neighbour_other ps (Some handle) side neighbour q differs = held_at-with_changed_other ps handle q _ (λ same. differs (ap Some (sym same)))

@@ -6,18 +6,20 @@ use Rattle.slot_pool.specs.Pool.{Pool}
 use Rattle.slot_pool.specs.declared.handle.Handle.{Handle}
 use Rattle.slot_pool.specs.declared.chain.Chain.{Chain}
 use Rattle.slot_pool.specs.declared.chain.Link.{Link}
+use Rattle.slot_pool.specs.declared.chain.Side.{Side}
+use Rattle.slot_pool.specs.declared.chain.Side.TheVariants as sides
 use Rattle.slot_pool.specs.declared.place.Resident.{Resident}
 use Rattle.slot_pool.specs.declared.place.Place.{Place}
 use Rattle.slot_pool.specs.declared.place.Place.TheVariants.{Free, Filled}
 
--- the link with another neighbour behind it, or in front of it
-abbrev pub next_changed : Option Handle → Option Link → Option Link
-next_changed next None = None
-next_changed next (Some link) = Some (record link { next = next })
+-- the link with another neighbour on one side
+abbrev pub beside : Side → Option Handle → Link → Link
+beside sides.Previous neighbour link = record link { previous = neighbour }
+beside sides.Next neighbour link = record link { next = neighbour }
 
-abbrev pub previous_changed : Option Handle → Option Link → Option Link
-previous_changed previous None = None
-previous_changed previous (Some link) = Some (record link { previous = previous })
+abbrev pub link_changed : Side → Option Handle → Option Link → Option Link
+link_changed side neighbour None = None
+link_changed side neighbour (Some link) = Some (beside side neighbour link)
 
 -- the link of a place with this index, with its handle
 abbrev pub link_entry : ℕ → ℕ → Option Link → Links
@@ -154,12 +156,8 @@ module _ {T : Type 0} where
   with_changed places handle None = places
   with_changed places handle (Some link) = with_link places handle (Some link)
 
-  -- the places with this handle behind the one given, if any, or in front of it
-  abbrev pub with_next : List (Place T) → Option Handle → Option Handle → List (Place T)
-  with_next places None next = places
-  with_next places (Some handle) next = with_changed places handle (next_changed next (link_in (held_at places handle)))
-
-  abbrev pub with_previous : List (Place T) → Option Handle → Option Handle → List (Place T)
-  with_previous places None previous = places
-  with_previous places (Some handle) previous =
-      with_changed places handle (previous_changed previous (link_in (held_at places handle)))
+  -- the places with this neighbour on one side of the handle given, if any
+  abbrev pub with_neighbour : List (Place T) → Option Handle → Side → Option Handle → List (Place T)
+  with_neighbour places None side neighbour = places
+  with_neighbour places (Some handle) side neighbour =
+      with_changed places handle (link_changed side neighbour (link_in (held_at places handle)))

@@ -19,6 +19,33 @@ pub(crate) struct Link {
     pub(crate) next: Option<Handle>,
 }
 
+/// The sides on which a chained handle may have a neighbour.
+#[derive(Clone, Copy)]
+pub(crate) enum Side {
+    Previous,
+    Next,
+}
+
+impl Link {
+    ghost use Rattle.slot_pool.specs.Place.{beside};
+
+    /// The same, but with this neighbour on one side.
+    pub(crate) fn beside(self, side: Side, neighbour: Option<Handle>) -> Link
+        ensures { result ≡ beside side neighbour self }
+    {
+        match side {
+            Side::Previous => Link {
+                previous: neighbour,
+                next: self.next,
+            },
+            Side::Next => Link {
+                previous: self.previous,
+                next: neighbour,
+            },
+        }
+    }
+}
+
 impl Chain {
     ghost use Rattle.slot_pool.specs.Links.{Links, IsChain, members};
     ghost use Rattle.slot_pool.specs.Place.{with_last, without_link};

@@ -1,9 +1,9 @@
 //! The places of a pool.
 ghost use Rattle.std.specs.Prelude.{◌≡◌, ◌+◌, ◌<◌, ◌≤◌, ◌^◌, Some, option_copied, is_some, IsSome, vec_len, vec_capacity};
 ghost use Rattle.std.specs.Borrow.{Lends, sem};
-ghost use Rattle.slot_pool.specs.Place.{filled, refilled, value_of, held_at, link_in, with_link, with_next, with_previous, with_free, free_after};
+ghost use Rattle.slot_pool.specs.Place.{filled, refilled, value_of, held_at, link_in, with_link, with_neighbour, with_free, free_after};
 
-use crate::chain::Link;
+use crate::chain::{Link, Side};
 use crate::handle::Handle;
 
 /// One place: free, with the index of the next free one if any, or filled.
@@ -76,33 +76,14 @@ impl<T> Place<T> {
     }
 }
 
-/// Sets the one behind.
-pub(crate) fn set_next<T>(places: &mut Vec<Place<T>>, at: Option<Handle>, next: Option<Handle>)
-    ensures { places.new.items ≡ with_next places.old.items at next }
-{
-    let Some(handle) = at else {
-        return;
-    };
-    let Some(link) = neighbours(places, handle) else {
-        return;
-    };
-    set_link(
-        places,
-        handle,
-        Some(Link {
-            previous: link.previous,
-            next,
-        }),
-    );
-}
-
-/// Sets the one in front.
-pub(crate) fn set_previous<T>(
+/// Sets the neighbour on one side, if there is a handle that lives and is in a chain.
+pub(crate) fn set_neighbour<T>(
     places: &mut Vec<Place<T>>,
     at: Option<Handle>,
-    previous: Option<Handle>,
+    side: Side,
+    neighbour: Option<Handle>,
 )
-    ensures { places.new.items ≡ with_previous places.old.items at previous }
+    ensures { places.new.items ≡ with_neighbour places.old.items at side neighbour }
 {
     let Some(handle) = at else {
         return;
@@ -110,14 +91,7 @@ pub(crate) fn set_previous<T>(
     let Some(link) = neighbours(places, handle) else {
         return;
     };
-    set_link(
-        places,
-        handle,
-        Some(Link {
-            previous,
-            next: link.next,
-        }),
-    );
+    set_link(places, handle, Some(link.beside(side, neighbour)));
 }
 
 /// Adds free places at the end, of which there is room for so many, and returns the first of all free ones.

@@ -5,10 +5,10 @@ ghost use Rattle.std.specs.Borrow.{sem};
 ghost use Rattle.slot_pool.specs.Pool.{KeepsOtherValues, Lives, get, empty_pool, with_put, without};
 ghost use Rattle.slot_pool.specs.Links.{IsChain, IsUnchained, KeepsOthers, is_other, members};
 
-use crate::chain::{Chain, Link};
+use crate::chain::{Chain, Link, Side};
 use crate::handle::Handle;
 use crate::place::{
-    Place, Resident, add_places, lives, living, neighbours, set_link, set_next, set_previous,
+    Place, Resident, add_places, lives, living, neighbours, set_link, set_neighbour,
 };
 use std::alloc::{AllocError, Global};
 use std::marker::Model;
@@ -176,7 +176,7 @@ impl<T> Pool<T> {
         ensures unchained { (other : Handle) → other ≢ handle → IsUnchained self.old.links other → IsUnchained self.new.links other }
     {
         let last = chain.last;
-        set_next(&mut self.places, last, Some(handle));
+        set_neighbour(&mut self.places, last, Side::Next, Some(handle));
         set_link(
             &mut self.places,
             handle,
@@ -202,8 +202,8 @@ impl<T> Pool<T> {
         let Some(link) = neighbours(&self.places, handle) else {
             unreachable!()
         };
-        set_next(&mut self.places, link.previous, link.next);
-        set_previous(&mut self.places, link.next, link.previous);
+        set_neighbour(&mut self.places, link.previous, Side::Next, link.next);
+        set_neighbour(&mut self.places, link.next, Side::Previous, link.previous);
         set_link(&mut self.places, handle, None);
         chain.remove(link);
     }

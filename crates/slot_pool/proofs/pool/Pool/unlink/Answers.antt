@@ -22,14 +22,14 @@ pub invariant_of-self : goal.invariant_of-self
 invariant_of-self g c =
     let ps = c.self.inside.places.items in
     let chain : IsChain (links_from 0 ps) c.args.chain.now = rw (← c.self.view_is) at c.requires.chain in
-    rw (c.set_link.ensures, c.set_previous.ensures, c.set_next.ensures) (StillHolds-unlink ps c.self.inside.free c.self.inside.puts c.self.invariant c.args.chain.now c.args.handle chain c.in-Some.link).sound
+    rw (c.set_link.ensures, c.set_neighbour-2.ensures, c.set_neighbour.ensures) (StillHolds-unlink ps c.self.inside.free c.self.inside.puts c.self.invariant c.args.chain.now c.args.handle chain c.in-Some.link).sound
 
 pub returns-clause-stays : goal.returns-clause-stays
 returns-clause-stays g c =
     let ps = c.self.inside.places.items in
     let chain : IsChain (links_from 0 ps) c.args.chain.now = rw (← c.self.view_is) at c.requires.chain in
     let holds = StillHolds-unlink ps c.self.inside.free c.self.inside.puts c.self.invariant c.args.chain.now c.args.handle chain c.in-Some.link in
-    rw (← c.self.view_is, c.set_link.ensures, c.set_previous.ensures, c.set_next.ensures) (Pool-same _ _ holds.values holds.size refl refl)
+    rw (← c.self.view_is, c.set_link.ensures, c.set_neighbour-2.ensures, c.set_neighbour.ensures) (Pool-same _ _ holds.values holds.size refl refl)
 
 pub returns-clause-chain : goal.returns-clause-chain
 returns-clause-chain g c =
@@ -38,7 +38,7 @@ returns-clause-chain g c =
     let member : Contains (members (links_from 0 ps) c.args.chain.now) c.args.handle = rw (← c.self.view_is) at c.requires.member in
     let found : link_in (held_at ps c.args.handle) ≡ Some c.in-Some.link = sym (rw c.deref.ensures.value at c.in-Some.ensures) in
     let after = Rechains-unlink ps c.self.inside.free c.self.inside.puts c.self.invariant c.args.chain.now c.args.handle chain c.in-Some.link member found in
-    rw (c.set_link.ensures, c.set_previous.ensures, c.set_next.ensures, c.remove.ensures) after.0.chain_is
+    rw (c.set_link.ensures, c.set_neighbour-2.ensures, c.set_neighbour.ensures, c.remove.ensures) after.0.chain_is
 
 pub returns-clause-members : goal.returns-clause-members
 returns-clause-members g c =
@@ -47,7 +47,7 @@ returns-clause-members g c =
     let member : Contains (members (links_from 0 ps) c.args.chain.now) c.args.handle = rw (← c.self.view_is) at c.requires.member in
     let found : link_in (held_at ps c.args.handle) ≡ Some c.in-Some.link = sym (rw c.deref.ensures.value at c.in-Some.ensures) in
     let after = Rechains-unlink ps c.self.inside.free c.self.inside.puts c.self.invariant c.args.chain.now c.args.handle chain c.in-Some.link member found in
-    rw (c.set_link.ensures, c.set_previous.ensures, c.set_next.ensures, c.remove.ensures, ← c.self.view_is) after.0.members_are
+    rw (c.set_link.ensures, c.set_neighbour-2.ensures, c.set_neighbour.ensures, c.remove.ensures, ← c.self.view_is) after.0.members_are
 
 pub returns-clause-others : goal.returns-clause-others
 returns-clause-others g c =
@@ -56,7 +56,7 @@ returns-clause-others g c =
     let member : Contains (members (links_from 0 ps) c.args.chain.now) c.args.handle = rw (← c.self.view_is) at c.requires.member in
     let found : link_in (held_at ps c.args.handle) ≡ Some c.in-Some.link = sym (rw c.deref.ensures.value at c.in-Some.ensures) in
     let after = Rechains-unlink ps c.self.inside.free c.self.inside.puts c.self.invariant c.args.chain.now c.args.handle chain c.in-Some.link member found in
-    rw (c.set_link.ensures, c.set_previous.ensures, c.set_next.ensures, ← c.self.view_is) after.0.others
+    rw (c.set_link.ensures, c.set_neighbour-2.ensures, c.set_neighbour.ensures, ← c.self.view_is) after.0.others
 
 pub returns-clause-unlinked : goal.returns-clause-unlinked
 returns-clause-unlinked g c =
@@ -65,7 +65,7 @@ returns-clause-unlinked g c =
     let member : Contains (members (links_from 0 ps) c.args.chain.now) c.args.handle = rw (← c.self.view_is) at c.requires.member in
     let found : link_in (held_at ps c.args.handle) ≡ Some c.in-Some.link = sym (rw c.deref.ensures.value at c.in-Some.ensures) in
     let after = Rechains-unlink ps c.self.inside.free c.self.inside.puts c.self.invariant c.args.chain.now c.args.handle chain c.in-Some.link member found in
-    rw (c.set_link.ensures, c.set_previous.ensures, c.set_next.ensures) after.1
+    rw (c.set_link.ensures, c.set_neighbour-2.ensures, c.set_neighbour.ensures) after.1
 
 pub returns-clause-unchained : goal.returns-clause-unchained
 returns-clause-unchained g c =
@@ -74,7 +74,7 @@ returns-clause-unchained g c =
     let member : Contains (members (links_from 0 ps) c.args.chain.now) c.args.handle = rw (← c.self.view_is) at c.requires.member in
     let found : link_in (held_at ps c.args.handle) ≡ Some c.in-Some.link = sym (rw c.deref.ensures.value at c.in-Some.ensures) in
     let after = Rechains-unlink ps c.self.inside.free c.self.inside.puts c.self.invariant c.args.chain.now c.args.handle chain c.in-Some.link member found in
-    rw (c.set_link.ensures, c.set_previous.ensures, c.set_next.ensures, ← c.self.view_is) (λ other none. elim (same_handle_tells other c.args.handle) [
+    rw (c.set_link.ensures, c.set_neighbour-2.ensures, c.set_neighbour.ensures, ← c.self.view_is) (λ other none. elim (same_handle_tells other c.args.handle) [
       | inl same ↦ ap (link_of _) same.1 ∙ after.1
       | inr differs ↦ after.0.unchained other differs.1 none
     ])
