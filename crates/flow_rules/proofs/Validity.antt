@@ -162,7 +162,7 @@ IsValid-clear attr list clear_attr most good_values one =
       one_fate = one;
     }
 
-on_port : (rxq group : ℕ) (action : Action) → is_bad rxq group action ≡ false → IsOnPort rxq action
+pub on_port : (rxq group : ℕ) (action : Action) → is_bad rxq group action ≡ false → IsOnPort rxq action
 on_port rxq group actions.Void fine = tt
 on_port rxq group (actions.Queue queue) fine = leb-false rxq queue fine
 on_port rxq group actions.Drop fine = tt
