@@ -36,7 +36,9 @@ pub fn id_for<T>(objects: &IndexMap<u16, T>, id: Option<u16>) -> u16
 
 /// Why a new object is refused, where there may be so many: its id is in use, or there are as many.
 pub fn id_fault<T>(objects: &IndexMap<u16, T>, id: Option<u16>, most: usize) -> Option<Fault>
-    ensures { result ≡ first (id_faults most id objects.now.entries) }
+    ensures first { result ≡ first (id_faults most id objects.now.entries) }
+    ensures free { result ≡ None → is_taken id objects.now.entries ≡ false }
+    ensures few { result ≡ None → length objects.now.entries < most }
 {
     if let Some(id) = id {
         if objects.contains_key(&id) {

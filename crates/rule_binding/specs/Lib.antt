@@ -1,0 +1,4 @@
+pub mod Bare
+pub mod Binding
+pub mod Difference
+pub mod Templates
