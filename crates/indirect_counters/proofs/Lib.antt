@@ -1,0 +1,6 @@
+pub mod Counting
+pub mod Creating
+pub mod Effects
+pub mod Lawful
+pub mod Moving
+pub mod Unused
