@@ -1,0 +1,5 @@
+mod Entries
+mod OwnIds
+mod PathEdits
+mod SharedEntries
+mod Steps
