@@ -1,5 +1,5 @@
 //! The id of a new object, and why one is refused.
-ghost use Rattle.std.specs.Prelude.{◌≡◌, ◌<◌, ◌^◌, false, nat_eq, None, length};
+ghost use Rattle.std.specs.Prelude.{◌≡◌, ◌<◌, ◌^◌, [], ◌∷◌, ◌++◌, false, nat_eq, None, length, OnOk, OnErr};
 ghost use Rattle.std.specs.Map.{lookup};
 ghost use Rattle.flow_rules.specs.Faults.{first};
 ghost use Rattle.object_ids.specs.Ids.{IsLeastUnused, id_faults, is_taken};
@@ -7,6 +7,7 @@ ghost use Rattle.object_ids.specs.Ids.{id_for, least_unused};
 
 use flow_rules::{Cause, Fault};
 use indexmap::IndexMap;
+use std::alloc::AllocError;
 
 /// The least id that isn't in use.
 #[tactic(auto, using(crate::proofs::Unused::room_at, crate::proofs::Unused::least_is))]
@@ -55,4 +56,14 @@ pub fn id_fault<T>(objects: &IndexMap<u16, T>, id: Option<u16>, most: usize) -> 
         });
     }
     None
+}
+
+/// Puts an object behind the others, at an id that isn't in use.
+pub fn insert<T: Drop>(objects: &mut IndexMap<u16, T>, id: u16, value: T) -> Result<(), AllocError>
+    requires { lookup (nat_eq id) objects.old.entries ≡ None }
+    ensures added { OnOk result (objects.new.entries ≡ objects.old.entries ++ (id, value) ∷ []) }
+    ensures stays { OnErr result (objects.new.entries ≡ objects.old.entries) }
+{
+    objects.insert(id, value)?;
+    Ok(())
 }

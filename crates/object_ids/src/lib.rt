@@ -7,9 +7,9 @@
 //! The model: objects by id are the list of their ids and values, in the order in which they were made, as an `IndexMap` keeps
 //! it; [`least_unused`] and [`id_fault`] are functions of that list (`specs/Ids`). The plain way looks an id up in the list for
 //! each number from 0 on; here it is looked up in the map. As n objects can't use the n + 1 ids from 0 to n, there are at
-//! most n + 1 look-ups. Nothing here takes memory.
+//! most n + 1 look-ups. Nothing but [`insert`] takes memory.
 #![tactic(auto)]
 
 mod ids;
 
-pub use ids::{id_fault, id_for, least_unused};
+pub use ids::{id_fault, id_for, insert, least_unused};
