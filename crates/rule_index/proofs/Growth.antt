@@ -11,11 +11,12 @@ use Rattle.flow_rules.specs.RuleView.{RuleView}
 use Rattle.rule_index.specs.declared.table.Home.{Home}
 use Rattle.rule_index.specs.declared.table.Table.{Table}
 use Rattle.rule_index.specs.declared.chain.HomeChain.{HomeChain}
+use Rattle.rule_index.specs.declared.chain.Lead.{Lead}
 use Rattle.rule_index.specs.declared.chain.RulePlace.{RulePlace}
 use Rattle.rule_index.specs.declared.finder.Finder.{Finder}
 use Rattle.rule_index.specs.Tables.{IsHome, Grows}
-use Rattle.rule_index.specs.Places.{same_home, home_at, IsNext, AreLinked, Ends, IsChain, relinked, linked_by, last_of, longer}
-use Rattle.rule_index.specs.Index.{IsKept, Indexed, HasNo, Stays, chain_of, place_of}
+use Rattle.rule_index.specs.Places.{same_home, home_at, IsNext, AreLinked, Ends, IsChain, IsFirst, relinked, linked_by, last_of, led_by, longer}
+use Rattle.rule_index.specs.Index.{Indexed, HasNo, Stays, chain_of, place_of}
 use Rattle.rule_index.proofs.Homes.{IsHome-grows}
 use Rattle.rule_index.proofs.Walks.{within}
 
@@ -55,19 +56,18 @@ record Relinked (places : List RulePlace) (last next q : ℕ) (x : RulePlace) : 
   old : RulePlace
   at : slice_get places q ≡ Some old
   of_home : x.home ≡ old.home
-  id : x.id ≡ old.id
   which : ((q ≡ last) × (x.next ≡ Some next)) ⊎ ((q ≢ last) × (x.next ≡ old.next))
 
 relinked_at : (places : List RulePlace) (last next q : ℕ) (x : RulePlace) → slice_get (relinked places last next) q ≡ Some x → Relinked places last next q x
 relinked_at [] last next q x e = cc
 relinked_at (y ∷ ys) zero next zero x e =
     let same : record y { next = Some next } ≡ x = cc in
-    record { old = y; at = refl; of_home = sym (ap (λ (z : RulePlace). z.home) same); id = sym (ap (λ (z : RulePlace). z.id) same); which = inl (refl, sym (ap (λ (z : RulePlace). z.next) same)) }
-relinked_at (y ∷ ys) zero next (suc q) x e = record { old = x; at = e; of_home = refl; id = refl; which = inr (λ no. omega arith, refl) }
-relinked_at (y ∷ ys) (suc last) next zero x e = record { old = x; at = e; of_home = refl; id = refl; which = inr (λ no. omega arith, refl) }
+    record { old = y; at = refl; of_home = sym (ap (λ (z : RulePlace). z.home) same); which = inl (refl, sym (ap (λ (z : RulePlace). z.next) same)) }
+relinked_at (y ∷ ys) zero next (suc q) x e = record { old = x; at = e; of_home = refl; which = inr (λ no. omega arith, refl) }
+relinked_at (y ∷ ys) (suc last) next zero x e = record { old = x; at = e; of_home = refl; which = inr (λ no. omega arith, refl) }
 relinked_at (y ∷ ys) (suc last) next (suc q) x e =
     let h = relinked_at ys last next q x e in
-    record { old = h.old; at = h.at; of_home = h.of_home; id = h.id; which = elim h.which [ inl a ↦ inl (ap suc a.0, a.1) | inr b ↦ inr (λ same. b.0 (omega arith), b.1) ] }
+    record { old = h.old; at = h.at; of_home = h.of_home; which = elim h.which [ inl a ↦ inl (ap suc a.0, a.1) | inr b ↦ inr (λ same. b.0 (omega arith), b.1) ] }
 
 relinked_home : (places : List RulePlace) (last next q : ℕ) → home_at (relinked places last next) q ≡ home_at places q
 relinked_home [] last next q = refl
@@ -90,13 +90,12 @@ record Linked (places : List RulePlace) (last : Option ℕ) (next q : ℕ) (x : 
   old : RulePlace
   at : slice_get places q ≡ Some old
   of_home : x.home ≡ old.home
-  id : x.id ≡ old.id
   which : (IsLast last q × (x.next ≡ Some next)) ⊎ ((IsLast last q → ⊥) × (x.next ≡ old.next))
 
 linked_at : (places : List RulePlace) (last : Option ℕ) (next q : ℕ) (x : RulePlace) → slice_get (linked_by places last next) q ≡ Some x → Linked places last next q x
-linked_at places None next q x e = record { old = x; at = e; of_home = refl; id = refl; which = inr (λ no. no, refl) }
+linked_at places None next q x e = record { old = x; at = e; of_home = refl; which = inr (λ no. no, refl) }
 linked_at places (Some last) next q x e =
-    let h = relinked_at places last next q x e in record { old = h.old; at = h.at; of_home = h.of_home; id = h.id; which = h.which }
+    let h = relinked_at places last next q x e in record { old = h.old; at = h.at; of_home = h.of_home; which = h.which }
 
 linked_home : (places : List RulePlace) (last : Option ℕ) (next q : ℕ) → home_at (linked_by places last next) q ≡ home_at places q
 linked_home places None next q = refl
@@ -131,15 +130,18 @@ Indexed-same slots tables tables' places places' chains chains' ids ids' grows s
     subst (λ (xs : List RulePlace). Indexed slots tables' xs chains' ids') (sym same) (record {
       long = ok.long;
       short = ok.short;
-      kept = λ p rule x at there. let k = ok.kept p rule x at there in record { home = IsHome-grows tables tables' rule x.home grows k.home; id = k.id };
+      kept = λ p rule x at there. let k = ok.kept p rule x at there in IsHome-grows tables tables' rule x.home grows k;
       linked = ok.linked;
       chained = λ home. subst (IsChain slots places home) (sym (chained home)) (ok.chained home);
       found = λ p rule at. found p rule at ∙ ok.found p rule at;
     })
 
-module _ (slots : List (Option RuleView)) (places : List RulePlace) (home : Home) (chain : Option HomeChain) (id : ℕ) (rule : RuleView) where
+module _ (slots : List (Option RuleView)) (places : List RulePlace) (home : Home) (chain : Option HomeChain) (rule : RuleView) where
   abbrev new_place : RulePlace
-  new_place = record { home = home; id = id; next = None }
+  new_place = record { home = home; next = None }
+
+  abbrev new_lead : Lead
+  new_lead = record { place = length places; id = rule.id }
 
   abbrev front : List RulePlace
   front = linked_by places (last_of chain) (length places)
@@ -214,78 +216,122 @@ module _ (slots : List (Option RuleView)) (places : List RulePlace) (home : Home
               (subst (λ (n : Option ℕ). IsNext after h.old.home p n) (sym other.1) (next_stays p h.old.home h.old.next other.0 ok home_there (linked p h.old h.at)))
         ]
 
+  -- a slot, and one of the home there
+  IsOld : ℕ → Option RuleView → Type 0
+  IsOld q s = slice_get slots q ≡ Some s
+
+  old_or_new : (q : ℕ) (s : Option RuleView) → slice_get (slots ++ Some rule ∷ []) q ≡ Some s → IsOld q s ⊎ (q ≡ length slots)
+  unfolding IsOld
+  old_or_new q s at = elim (get_push slots (Some rule) s q at) [ inl old ↦ inl old | inr new ↦ inr new.0 ]
+
+  -- the first rule of a home is the first still
+  first_stays : (h : Home) (lead : Lead) → length places ≡ length slots → IsFirst None slots places h 0 (Some lead) → IsFirst None (slots ++ Some rule ∷ []) after h 0 (Some lead)
+  unfolding IsOld
+  first_stays h lead long k = record {
+    of_home = home_stays lead.place h k.of_home;
+    rule = k.rule;
+    at = get_before slots (Some rule) (Some k.rule) lead.place k.at;
+    id = k.id;
+    does = refl;
+    least = λ q s f e at p. elim (old_or_new q s at) [
+      | inl old ↦ elim (front_home q h e) [ inl a ↦ k.least q s f a old p | inr b ↦ let here = b.0 in let inside = within places h lead.place k.of_home in omega arith ]
+      | inr new ↦ let inside = within places h lead.place k.of_home in omega arith
+    ];
+  }
+
+  -- where a home had no rule the new one is the first
+  first_new : length places ≡ length slots → IsFirst None slots places home 0 None → IsFirst None (slots ++ Some rule ∷ []) after home 0 (Some new_lead)
+  unfolding IsOld
+  first_new long k = record {
+    of_home = home_new;
+    rule = rule;
+    at = subst (λ (n : ℕ). slice_get (slots ++ Some rule ∷ []) n ≡ Some (Some rule)) (sym long) (get_last slots (Some rule));
+    id = refl;
+    does = refl;
+    least = λ q s f e at p. elim (old_or_new q s at) [
+      | inl old ↦ elim (front_home q home e) [ inl a ↦ absurd (k q s f a old p) | inr b ↦ let here = b.0 in omega arith ]
+      | inr new ↦ omega (arith, long, new)
+    ];
+  }
+
+  led : (o : Option Lead) → length places ≡ length slots → IsFirst None slots places home 0 o → IsFirst None (slots ++ Some rule ∷ []) after home 0 (Some (led_by o new_lead))
+  led None long k = first_new long k
+  led (Some lead) long k = first_stays home lead long k
+
+  none_stays : (h : Home) → length places ≡ length slots → (home ≡ h → ⊥) → IsFirst None slots places h 0 None → IsFirst None (slots ++ Some rule ∷ []) after h 0 None
+  unfolding IsOld
+  none_stays h long other k = λ q s f e at p. elim (front_home q h e) [
+    | inl a ↦ elim (old_or_new q s at) [ inl old ↦ k q s f a old p | inr new ↦ (let inside = within places h q a in let no : ⊥ = omega (arith, long, new, inside) in no) ]
+    | inr b ↦ other b.1
+  ]
+
+  lead_stays : (h : Home) (o : Option Lead) → length places ≡ length slots → (home ≡ h → ⊥) → IsFirst None slots places h 0 o → IsFirst None (slots ++ Some rule ∷ []) after h 0 o
+  lead_stays h None long other k = none_stays h long other k
+  lead_stays h (Some lead) long other k = first_stays h lead long k
+
   -- the chain of the home, and those of others
-  chain_longer : length places ≡ length slots → IsChain slots places home chain → Ends (slots ++ Some rule ∷ []) after home (longer chain (length places))
+  chain_longer : length places ≡ length slots → IsChain slots places home chain → Ends (slots ++ Some rule ∷ []) after home (longer chain new_lead)
   chain_longer long ok = by chain ok where
-    by : (c : Option HomeChain) → IsChain slots places home c → Ends (slots ++ Some rule ∷ []) after home (longer c (length places))
+    by : (c : Option HomeChain) → IsChain slots places home c → Ends (slots ++ Some rule ∷ []) after home (longer c new_lead)
     by None none = record {
-      first = home_new;
+      lead = first_new long (λ q s f e at p. none q e);
       last = home_new;
-      least = λ q r e at. elim (front_home q home e) [ inl a ↦ absurd (none q a) | inr b ↦ let here = b.0 in omega arith ];
       greatest = λ q e. elim (front_home q home e) [ inl a ↦ absurd (none q a) | inr b ↦ let here = b.0 in omega arith ];
     }
     by (Some c) k = record {
-      first = home_stays c.first home k.first;
+      lead = led c.lead long k.lead;
       last = home_new;
-      least = λ q r e at. elim (get_push slots (Some rule) (Some r) q at) [
-        | inl old ↦ elim (front_home q home e) [ inl a ↦ k.least q r a old | inr b ↦ let here = b.0 in let f = within places home c.first k.first in omega arith ]
-        | inr new ↦ let here = new.0 in let f = within places home c.first k.first in omega arith
-      ];
       greatest = λ q e. elim (front_home q home e) [ inl a ↦ let f = within places home q a in omega arith | inr b ↦ let here = b.0 in omega arith ];
     }
 
   chain_stays : (h : Home) (c : Option HomeChain) → length places ≡ length slots → (home ≡ h → ⊥) → IsChain slots places h c → IsChain (slots ++ Some rule ∷ []) after h c
   chain_stays h None long other none = λ q e. elim (front_home q h e) [ inl a ↦ none q a | inr b ↦ other b.1 ]
   chain_stays h (Some c) long other k = record {
-    first = home_stays c.first h k.first;
+    lead = lead_stays h c.lead long other k.lead;
     last = home_stays c.last h k.last;
-    least = λ q r e at. elim (front_home q h e) [
-      | inl a ↦ elim (get_push slots (Some rule) (Some r) q at) [ inl old ↦ k.least q r a old | inr new ↦ absurd (let f = within places h q a in let here = new.0 in let no : ⊥ = omega arith in no) ]
-      | inr b ↦ absurd (other b.1)
-    ];
     greatest = λ q e. elim (front_home q h e) [ inl a ↦ k.greatest q a | inr b ↦ absurd (other b.1) ];
   }
 
 -- one rule more
 pub Indexed-push : (slots : List (Option RuleView)) (tables tables' : List Table) (places places' : List RulePlace) (chains chains' : Home → Option HomeChain) (ids ids' : ℕ → Option ℕ) (rule : RuleView) (home : Home) (n : ℕ)
     → n ≡ length places → Grows tables tables' → IsHome tables' rule home
-    → places' ≡ linked_by places (last_of (chains home)) n ++ record { home = home; id = rule.id; next = None } ∷ []
-    → ((h : Home) → chains' h ≡ (if same_home home h then Some (longer (chains home) n) else chains h))
+    → places' ≡ linked_by places (last_of (chains home)) n ++ record { home = home; next = None } ∷ []
+    → ((h : Home) → chains' h ≡ (if same_home home h then Some (longer (chains home) (record { place = n; id = rule.id })) else chains h))
     → ids' rule.id ≡ Some n → ((q : ℕ) → nat_eq rule.id q ≡ false → ids' q ≡ ids q)
     → HasNo slots rule.id → length slots < 1048576 → Indexed slots tables places chains ids → Indexed (slots ++ Some rule ∷ []) tables' places' chains' ids'
 Indexed-push slots tables tables' places places' chains chains' ids ids' rule home n is grows at_home places_are chains_are id_is ids_are new few ok =
-    subst (λ (xs : List RulePlace). Indexed (slots ++ Some rule ∷ []) tables' xs chains' ids') (sym (places_are ∙ ap (λ (m : ℕ). linked_by places (last_of (chains home)) m ++ record { home = home; id = rule.id; next = None } ∷ []) is)) (record {
+    subst (λ (xs : List RulePlace). Indexed (slots ++ Some rule ∷ []) tables' xs chains' ids') (sym (places_are ∙ ap (λ (m : ℕ). linked_by places (last_of (chains home)) m ++ record { home = home; next = None } ∷ []) is)) (record {
       long = long;
       short = omega (arith, length-append slots (Some rule ∷ []));
       kept = kept;
-      linked = linked_after slots places home (chains home) rule.id rule (ok.chained home) ok.linked;
+      linked = linked_after slots places home (chains home) rule (ok.chained home) ok.linked;
       chained = chained;
       found = found;
     }) where
-      long : length (after slots places home (chains home) rule.id rule) ≡ length (slots ++ Some rule ∷ [])
-      long = omega (arith, ok.long, linked_length places (last_of (chains home)) (length places), length-append (front slots places home (chains home) rule.id rule) (new_place slots places home (chains home) rule.id rule ∷ []), length-append slots (Some rule ∷ []))
+      long : length (after slots places home (chains home) rule) ≡ length (slots ++ Some rule ∷ [])
+      long = omega (arith, ok.long, linked_length places (last_of (chains home)) (length places), length-append (front slots places home (chains home) rule) (new_place slots places home (chains home) rule ∷ []), length-append slots (Some rule ∷ []))
 
-      kept : (p : ℕ) (r : RuleView) (x : RulePlace) → slice_get (slots ++ Some rule ∷ []) p ≡ Some (Some r) → slice_get (after slots places home (chains home) rule.id rule) p ≡ Some x → IsKept tables' r x
+      kept : (p : ℕ) (r : RuleView) (x : RulePlace) → slice_get (slots ++ Some rule ∷ []) p ≡ Some (Some r) → slice_get (after slots places home (chains home) rule) p ≡ Some x → IsHome tables' r x.home
       kept p r x at there = elim (get_push slots (Some rule) (Some r) p at) [
-        | inl old ↦ elim (get_push (front slots places home (chains home) rule.id rule) (new_place slots places home (chains home) rule.id rule) x p there) [
+        | inl old ↦ elim (get_push (front slots places home (chains home) rule) (new_place slots places home (chains home) rule) x p there) [
           | inl a ↦ (let h = linked_at places (last_of (chains home)) (length places) p x a in let k = ok.kept p r h.old old h.at in
-              record { home = subst (IsHome tables' r) (sym h.of_home) (IsHome-grows tables tables' r h.old.home grows k.home); id = h.id ∙ k.id })
+              subst (IsHome tables' r) (sym h.of_home) (IsHome-grows tables tables' r h.old.home grows k))
           | inr b ↦ absurd (let inside = slice_get_within slots p (Some r) old in let here = b.0 in let l = linked_length places (last_of (chains home)) (length places) in let no : ⊥ = omega (arith, ok.long, here, l) in no)
         ]
-        | inr this ↦ elim (get_push (front slots places home (chains home) rule.id rule) (new_place slots places home (chains home) rule.id rule) x p there) [
+        | inr this ↦ elim (get_push (front slots places home (chains home) rule) (new_place slots places home (chains home) rule) x p there) [
           | inl a ↦ absurd (let h = linked_at places (last_of (chains home)) (length places) p x a in let inside = slice_get_within places p h.old h.at in let here = this.0 in let no : ⊥ = omega (arith, ok.long, here) in no)
           | inr b ↦ (let one : rule ≡ r = (let e : Some rule ≡ Some r = this.1 in cc) in
-              subst (λ (y : RulePlace). IsKept tables' r y) b.1 (subst (λ (s : RuleView). IsKept tables' s (new_place slots places home (chains home) rule.id rule)) one (record { home = at_home; id = refl })))
+              subst (λ (y : RulePlace). IsHome tables' r y.home) b.1 (subst (λ (s : RuleView). IsHome tables' s home) one at_home))
         ]
       ]
 
-      chained : (h : Home) → IsChain (slots ++ Some rule ∷ []) (after slots places home (chains home) rule.id rule) h (chains' h)
-      chained h = subst (IsChain (slots ++ Some rule ∷ []) (after slots places home (chains home) rule.id rule) h) (sym (chains_are h)) (by (same_home home h) refl) where
-        by : (b : Bool) → same_home home h ≡ b → IsChain (slots ++ Some rule ∷ []) (after slots places home (chains home) rule.id rule) h (if b then Some (longer (chains home) n) else chains h)
-        by true e = subst (λ (m : ℕ). Ends (slots ++ Some rule ∷ []) (after slots places home (chains home) rule.id rule) h (longer (chains home) m)) (sym is)
-            (subst (λ (k : Home). Ends (slots ++ Some rule ∷ []) (after slots places home (chains home) rule.id rule) k (longer (chains home) (length places))) (same_home_is home h e)
-            (chain_longer slots places home (chains home) rule.id rule ok.long (ok.chained home)))
-        by false e = chain_stays slots places home (chains home) rule.id rule h (chains h) ok.long (λ same. let t : true ≡ false = sym (same_home_self h) ∙ ap (λ (k : Home). same_home k h) (sym same) ∙ e in let no : ⊥ = cc in no) (ok.chained h)
+      chained : (h : Home) → IsChain (slots ++ Some rule ∷ []) (after slots places home (chains home) rule) h (chains' h)
+      chained h = subst (IsChain (slots ++ Some rule ∷ []) (after slots places home (chains home) rule) h) (sym (chains_are h)) (by (same_home home h) refl) where
+        by : (b : Bool) → same_home home h ≡ b → IsChain (slots ++ Some rule ∷ []) (after slots places home (chains home) rule) h (if b then Some (longer (chains home) (record { place = n; id = rule.id })) else chains h)
+        by true e = subst (λ (m : ℕ). Ends (slots ++ Some rule ∷ []) (after slots places home (chains home) rule) h (longer (chains home) (record { place = m; id = rule.id }))) (sym is)
+            (subst (λ (k : Home). Ends (slots ++ Some rule ∷ []) (after slots places home (chains home) rule) k (longer (chains home) (record { place = length places; id = rule.id }))) (same_home_is home h e)
+            (chain_longer slots places home (chains home) rule ok.long (ok.chained home)))
+        by false e = chain_stays slots places home (chains home) rule h (chains h) ok.long (λ same. let t : true ≡ false = sym (same_home_self h) ∙ ap (λ (k : Home). same_home k h) (sym same) ∙ e in let no : ⊥ = cc in no) (ok.chained h)
 
       found : (p : ℕ) (r : RuleView) → slice_get (slots ++ Some rule ∷ []) p ≡ Some (Some r) → ids' r.id ≡ Some p
       found p r at = elim (get_push slots (Some rule) (Some r) p at) [
@@ -304,8 +350,8 @@ on_err (Err x) P p = p
 pub Grows-none : (tables : List Table) → Grows tables tables
 Grows-none tables = record { more = []; is = sym (append-nil tables) }
 
-pub stays : (old new : Finder) (rule : RuleView) → Grows old.tables.items new.tables.items → new.places.items ≡ old.places.items → ((h : Home) → chain_of new h ≡ chain_of old h)
+pub stays : (old new : Finder) (rule : RuleView) → Grows old.tables.list new.tables.list → new.places.items ≡ old.places.items → ((h : Home) → chain_of new h ≡ chain_of old h)
     → ((q : ℕ) → nat_eq rule.id q ≡ false → place_of new q ≡ place_of old q) → Stays old new rule
 stays old new rule grows places chains ids = λ slots ok none.
-    Indexed-same slots old.tables.items new.tables.items old.places.items new.places.items (chain_of old) (chain_of new) (place_of old) (place_of new) grows places chains
+    Indexed-same slots old.tables.list new.tables.list old.places.items new.places.items (chain_of old) (chain_of new) (place_of old) (place_of new) grows places chains
     (λ p r at. ids r.id (ne_eqb rule.id r.id (λ same. none p r at (sym same)))) ok

@@ -140,12 +140,12 @@ at_home tables rule wanted number at by = record {
   digest_is ls = ap (λ (x : Bool). digest_with x (lines_in at.table) ls) at.is.exact ∙ ap (λ (x : Option (List ShapeLine)). digest_with wanted.exact x ls) at.is.lines
 
 -- more tables
-get_front : {A : Type 0} (xs ys : List A) (p : ℕ) (x : A) → slice_get xs p ≡ Some x → slice_get (xs ++ ys) p ≡ Some x
+pub get_front : {A : Type 0} (xs ys : List A) (p : ℕ) (x : A) → slice_get xs p ≡ Some x → slice_get (xs ++ ys) p ≡ Some x
 get_front [] ys p x e = cc
 get_front (a ∷ xs) ys zero x e = e
 get_front (a ∷ xs) ys (suc p) x e = get_front xs ys p x e
 
-get_last : {A : Type 0} (xs : List A) (x : A) → slice_get (xs ++ x ∷ []) (length xs) ≡ Some x
+pub get_last : {A : Type 0} (xs : List A) (x : A) → slice_get (xs ++ x ∷ []) (length xs) ≡ Some x
 get_last [] x = refl
 get_last (a ∷ xs) x = get_last xs x
 

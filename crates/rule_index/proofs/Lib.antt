@@ -3,6 +3,7 @@ mod Lists
 mod Digits
 mod Homes
 mod Walks
+mod Turned
 mod Growth
 mod Removal
 mod Ranks

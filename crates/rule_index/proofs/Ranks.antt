@@ -1,33 +1,29 @@
--- The least rank is that of the best rule.
-use Rattle.std.proofs.Common.{◌≡◌, ℕ, ◌+◌, ◌*◌, ◌%◌, ◌^◌, ◌<◌, ◌≤◌, zero, suc, Bool, true, false, nat_lt, length, get_or, List, [], ◌∷◌, Option, None, Some, refl, sym, ap, ◌∙◌, subst, arith, filter, if◌then◌else◌}
+-- The rule of the least rank is the best rule.
+use Rattle.std.proofs.Common.{◌≡◌, ℕ, ◌^◌, ◌≤◌, ◌<◌, zero, suc, Bool, true, false, nat_lt, length, List, [], ◌∷◌, Option, None, Some, refl, sym, ap, ◌∙◌, subst, arith, filter, if◌then◌else◌}
 use Rattle.std.proofs.lemmas.Bool.{ltb-true, ltb-false}
-use Rattle.std.proofs.lemmas.Nat.{mod-mul-add}
-use Rattle.std.proofs.lemmas.Option.{slice_get_within, slice_get-get_or}
+use Rattle.std.proofs.lemmas.Nat.{same_from_place}
+use Rattle.std.proofs.lemmas.Option.{slice_get_within}
 use Rattle.std.specs.List.{slice_get}
 use Rattle.std.specs.Option.{option_map}
 use Rattle.packet_headers.specs.declared.items.LayerAt.{LayerAt}
 use Rattle.flow_rules.specs.RuleView.{RuleView}
 use Rattle.flow_rules.specs.Best.{takes, better, first_lowest, best}
-use Rattle.rule_index.specs.declared.table.Home.{Home}
-use Rattle.rule_index.specs.declared.table.Table.{Table}
-use Rattle.rule_index.specs.declared.chain.HomeChain.{HomeChain}
-use Rattle.rule_index.specs.declared.chain.RulePlace.{RulePlace}
-use Rattle.rule_index.specs.Index.{Indexed}
-use Rattle.rule_index.specs.Rank.{present, rank, IsLeast, IsIn, id_of}
+use Rattle.rule_index.specs.declared.chain.Lead.{Lead}
+use Rattle.rule_index.specs.Rank.{present, rank, IsBest}
 
 abbrev Slots : Type 0
 Slots = List (Option RuleView)
 
--- the rule of the least rank, or none takes the layers
-record IsBest (slots : Slots) (group : ℕ) (layers : List LayerAt) (r : RuleView) : Type 0 where
+-- a rule is the best, wherever it stands
+record HasBest (slots : Slots) (group : ℕ) (layers : List LayerAt) (r : RuleView) : Type 0 where
   place : ℕ
   at : slice_get slots place ≡ Some (Some r)
   taken : takes group layers r ≡ true
   least : (q : ℕ) (s : RuleView) → slice_get slots q ≡ Some (Some s) → takes group layers s ≡ true → rank r.priority place ≤ rank s.priority q
 
 abbrev Tells : Slots → ℕ → List LayerAt → Option RuleView → Type 0
-Tells slots group layers None = (q : ℕ) (s : RuleView) → slice_get slots q ≡ Some (Some s) → takes group layers s ≡ true → ⊥
-Tells slots group layers (Some r) = IsBest slots group layers r
+Tells slots group layers None = IsBest slots group layers None
+Tells slots group layers (Some r) = HasBest slots group layers r
 
 -- a slot in front without a rule
 behind_none : (slots : Slots) (group : ℕ) (layers : List LayerAt) (o : Option RuleView) → Tells slots group layers o → Tells (None ∷ slots) group layers o
@@ -52,7 +48,7 @@ passed_over slots group layers x (Some r) misses t = record { place = suc t.plac
   least (suc q) s at is = let h = t.least q s at is in omega arith
 
 -- one that does
-in_front : (slots : Slots) (group : ℕ) (layers : List LayerAt) (x : RuleView) (o : Option RuleView) → length slots ≤ 2 ^ 32 → takes group layers x ≡ true → Tells slots group layers o → IsBest (Some x ∷ slots) group layers (better x o)
+in_front : (slots : Slots) (group : ℕ) (layers : List LayerAt) (x : RuleView) (o : Option RuleView) → length slots ≤ 2 ^ 32 → takes group layers x ≡ true → Tells slots group layers o → HasBest (Some x ∷ slots) group layers (better x o)
 in_front slots group layers x None short does t = record { place = 0; at = refl; taken = does; least = least } where
   least : (q : ℕ) (s : RuleView) → slice_get (Some x ∷ slots) q ≡ Some (Some s) → takes group layers s ≡ true → rank x.priority 0 ≤ rank s.priority q
   least zero s at is = let same : x ≡ s = cc in subst (λ (r : RuleView). rank x.priority 0 ≤ rank r.priority 0) same (omega arith)
@@ -68,7 +64,7 @@ in_front slots group layers x (Some later) short does t = by (nat_lt later.prior
   high b zero s at is = let same : x ≡ s = cc in subst (λ (r : RuleView). rank x.priority 0 ≤ rank r.priority 0) same (omega arith)
   high b (suc q) s at is = let h = t.least q s at is in let over : x.priority ≤ later.priority = ltb-false later.priority x.priority b in let inside : t.place < length slots = slice_get_within slots t.place (Some later) t.at in omega arith
 
-  by : (b : Bool) → nat_lt later.priority x.priority ≡ b → IsBest (Some x ∷ slots) group layers (if b then later else x)
+  by : (b : Bool) → nat_lt later.priority x.priority ≡ b → HasBest (Some x ∷ slots) group layers (if b then later else x)
   by true b = record { place = suc t.place; at = t.at; taken = t.taken; least = low b }
   by false b = record { place = 0; at = refl; taken = does; least = high b }
 
@@ -86,33 +82,23 @@ tells_best (Some x ∷ slots) group layers short =
 abbrev id_in : RuleView → ℕ
 id_in rule = rule.id
 
-no_place : RulePlace
-no_place = record { home = record { digest = 0; table = 0 }; id = 0; next = None }
+abbrev id_of : Lead → ℕ
+id_of lead = lead.id
 
-same_rule : (slots : Slots) (tables : List Table) (places : List RulePlace) (chains : Home → Option HomeChain) (ids : ℕ → Option ℕ) (group : ℕ) (layers : List LayerAt) (o : Option RuleView) (m : Option ℕ)
-    → Indexed slots tables places chains ids → Tells slots group layers o → IsLeast slots group layers m → id_of places m ≡ option_map id_in o
-same_rule slots tables places chains ids group layers None None ok t l = refl
-same_rule slots tables places chains ids group layers None (Some n) ok t l = absurd (t l.sound.place l.sound.rule l.sound.at l.sound.takes)
-same_rule slots tables places chains ids group layers (Some r) None ok t l = absurd (l.least t.place r t.at t.taken)
-same_rule slots tables places chains ids group layers (Some r) (Some n) ok t l =
-    let over : rank r.priority t.place ≤ n = (let h = t.least l.sound.place l.sound.rule l.sound.at l.sound.takes in let e = l.sound.is in omega arith) in
-    let under : n ≤ rank r.priority t.place = l.least t.place r t.at t.taken in
-    let inside : t.place < length slots = slice_get_within slots t.place (Some r) t.at in
-    let same : n ≡ r.priority * 2 ^ 32 + t.place = omega arith in
-    let place : n % 2 ^ 32 ≡ t.place = ap (λ (k : ℕ). k % 2 ^ 32) same ∙ mod-mul-add r.priority (2 ^ 32) t.place (omega (arith, ok.short)) in
-    let there : slice_get places t.place ≡ Some (get_or places t.place no_place) = slice_get-get_or places t.place no_place (omega (arith, ok.long)) in
-    ap (λ (k : ℕ). option_map (λ (x : RulePlace). x.id) (slice_get places k)) place ∙ ap (option_map (λ (x : RulePlace). x.id)) there
-    ∙ ap (λ (k : ℕ). Some k) (ok.kept t.place r (get_or places t.place no_place) t.at there).id
+same_rule : (slots : Slots) (group : ℕ) (layers : List LayerAt) (o : Option RuleView) (m : Option Lead)
+    → length slots ≤ 2 ^ 32 → Tells slots group layers o → IsBest slots group layers m → option_map id_of m ≡ option_map id_in o
+same_rule slots group layers None None short t l = refl
+same_rule slots group layers None (Some lead) short t l = absurd (t lead.place l.rule l.at l.taken)
+same_rule slots group layers (Some r) None short t l = absurd (l t.place r t.at t.taken)
+same_rule slots group layers (Some r) (Some lead) short t l =
+    let over = t.least lead.place l.rule l.at l.taken in
+    let under = l.least t.place r t.at t.taken in
+    let inside = slice_get_within slots t.place (Some r) t.at in
+    let here = slice_get_within slots lead.place (Some l.rule) l.at in
+    let place : lead.place ≡ t.place = (same_from_place l.rule.priority lead.place r.priority t.place (2 ^ 32) (omega (arith, short, here)) (omega (arith, short, inside)) (omega (arith, over, under))).1 in
+    let one : l.rule ≡ r = (let e : Some (Some l.rule) ≡ Some (Some r) = sym l.at ∙ ap (slice_get slots) place ∙ t.at in cc) in
+    ap (λ (n : ℕ). Some n) (sym l.id ∙ ap id_in one)
 
-pub id_of_least : (slots : Slots) (tables : List Table) (places : List RulePlace) (chains : Home → Option HomeChain) (ids : ℕ → Option ℕ) (group : ℕ) (layers : List LayerAt) (m : Option ℕ)
-    → Indexed slots tables places chains ids → IsLeast slots group layers m → id_of places m ≡ option_map id_in (best (present slots) group layers)
-id_of_least slots tables places chains ids group layers m ok l =
-    same_rule slots tables places chains ids group layers (best (present slots) group layers) m ok (tells_best slots group layers (omega (arith, ok.short))) l
-
-pub in_of_least : (slots : Slots) (tables : List Table) (places : List RulePlace) (chains : Home → Option HomeChain) (ids : ℕ → Option ℕ) (group : ℕ) (layers : List LayerAt) (m : Option ℕ)
-    → Indexed slots tables places chains ids → IsLeast slots group layers m → IsIn places m
-in_of_least slots tables places chains ids group layers None ok l = tt
-in_of_least slots tables places chains ids group layers (Some n) ok l =
-    let inside : l.sound.place < length slots = slice_get_within slots l.sound.place (Some l.sound.rule) l.sound.at in
-    let place : n % 2 ^ 32 ≡ l.sound.place = ap (λ (k : ℕ). k % 2 ^ 32) l.sound.is ∙ mod-mul-add l.sound.rule.priority (2 ^ 32) l.sound.place (omega (arith, ok.short)) in
-    omega (arith, ok.long)
+pub id_of_best : (slots : Slots) (group : ℕ) (layers : List LayerAt) (m : Option Lead) → length slots ≤ 2 ^ 32 → IsBest slots group layers m
+    → option_map id_of m ≡ option_map id_in (best (present slots) group layers)
+id_of_best slots group layers m short l = same_rule slots group layers (best (present slots) group layers) m short (tells_best slots group layers short) l

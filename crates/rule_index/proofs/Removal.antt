@@ -3,16 +3,18 @@ use Rattle.std.proofs.Common.{◌≡◌, ◌≢◌, ℕ, ◌+◌, ◌≤◌, zer
 use Rattle.std.proofs.lemmas.Bool.{eqb-true, ne_eqb}
 use Rattle.std.proofs.Common.{eq-eqb}
 use Rattle.std.specs.List.{slice_get}
+use Rattle.std.specs.Option.{option_map}
 use Rattle.flow_rules.specs.RuleView.{RuleView}
 use Rattle.flow_rules.specs.Changes.{without}
 use Rattle.rule_index.specs.declared.table.Home.{Home}
 use Rattle.rule_index.specs.declared.table.Table.{Table}
 use Rattle.rule_index.specs.declared.chain.HomeChain.{HomeChain}
+use Rattle.rule_index.specs.declared.chain.Lead.{Lead}
 use Rattle.rule_index.specs.declared.chain.RulePlace.{RulePlace}
-use Rattle.rule_index.specs.Places.{same_home, Ends, IsChain, IsFirst, moved}
+use Rattle.rule_index.specs.Places.{same_home, home_at, passes, IsChain, IsFirst, led_behind, moved}
 use Rattle.rule_index.specs.Index.{Indexed, HasNo, IsPlaceOf, AreDistinct}
 use Rattle.rule_index.specs.Rank.{present}
-use Rattle.rule_index.proofs.Growth.{same_home_is}
+use Rattle.rule_index.proofs.Growth.{same_home_is, same_home_self}
 
 -- a slot without its rule
 get_cleared : (slots : List (Option RuleView)) (p q : ℕ) (r : RuleView) → slice_get (slice_set slots p None) q ≡ Some (Some r) → (slice_get slots q ≡ Some (Some r)) × (q ≢ p)
@@ -35,36 +37,75 @@ distinct slots tables places chains ids ok p q r s at there same =
     let c : ids r.id ≡ ids s.id = ap ids same in
     let d : Some p ≡ Some q = sym a ∙ c ∙ b in cc
 
-ends_stay : (slots : List (Option RuleView)) (places : List RulePlace) (home : Home) (p : ℕ) (chain : HomeChain) → Ends slots places home chain → Ends (slice_set slots p None) places home chain
-ends_stay slots places home p chain k = record { first = k.first; last = k.last; least = λ q r e at. k.least q r e (get_cleared slots p q r at).0; greatest = k.greatest }
+get_other : (slots : List (Option RuleView)) (p q : ℕ) (s : Option RuleView) → q ≢ p → slice_get slots q ≡ Some s → slice_get (slice_set slots p None) q ≡ Some s
+get_other [] p q s other e = cc
+get_other (x ∷ xs) zero zero s other e = absurd (other refl)
+get_other (x ∷ xs) zero (suc q) s other e = e
+get_other (x ∷ xs) (suc p) zero s other e = e
+get_other (x ∷ xs) (suc p) (suc q) s other e = get_other xs p q s (λ same. other (ap suc same)) e
 
-chain_stays : (slots : List (Option RuleView)) (places : List RulePlace) (home : Home) (p : ℕ) (chain : Option HomeChain) → IsChain slots places home chain → IsChain (slice_set slots p None) places home chain
-chain_stays slots places home p None k = k
-chain_stays slots places home p (Some chain) k = ends_stay slots places home p chain k
+-- the first rule of a home is the first still, if it isn\'t this one
+first_stays : (slots : List (Option RuleView)) (places : List RulePlace) (home : Home) (p : ℕ) (lead : Lead) → lead.place ≢ p
+    → IsFirst None slots places home 0 (Some lead) → IsFirst None (slice_set slots p None) places home 0 (Some lead)
+first_stays slots places home p lead other k = record {
+  of_home = k.of_home;
+  rule = k.rule;
+  at = get_other slots p lead.place (Some k.rule) other k.at;
+  id = k.id;
+  does = refl;
+  least = least;
+} where
+  least : (q : ℕ) (s : Option RuleView) → 0 ≤ q → home_at places q ≡ Some home → slice_get (slice_set slots p None) q ≡ Some s → passes None s ≡ true → lead.place ≤ q
+  least q None f e at t = cc
+  least q (Some r) f e at t = k.least q (Some r) f e (get_cleared slots p q r at).0 refl
 
-chain_moved : (slots : List (Option RuleView)) (places : List RulePlace) (home : Home) (p : ℕ) (next : Option ℕ) (chain : Option HomeChain)
-    → IsFirst None (slice_set slots p None) places home p next → IsChain slots places home chain → IsChain (slice_set slots p None) places home (moved p next chain)
-chain_moved slots places home p None None f k = k
-chain_moved slots places home p (Some n) None f k = k
-chain_moved slots places home p None (Some c) f k = ends_stay slots places home p c k
-chain_moved slots places home p (Some n) (Some c) f k = by (nat_eq c.first p) refl where
-  by : (b : Bool) → nat_eq c.first p ≡ b → IsChain (slice_set slots p None) places home (if b then Some (record { first = n; last = c.last }) else Some c)
-  by false e = ends_stay slots places home p c k
-  by true e =
-      let here : c.first ≡ p = eqb-true c.first p e in
-      record {
-        first = f.of_home;
-        last = k.last;
-        least = λ q r e2 at. f.least q (Some r) (let le : c.first ≤ q = k.least q r e2 (get_cleared slots p q r at).0 in omega arith) e2 at refl;
-        greatest = k.greatest;
-      }
+none_stays : (slots : List (Option RuleView)) (places : List RulePlace) (home : Home) (p : ℕ)
+    → IsFirst None slots places home 0 None → IsFirst None (slice_set slots p None) places home 0 None
+none_stays slots places home p k = none where
+  none : (q : ℕ) (s : Option RuleView) → 0 ≤ q → home_at places q ≡ Some home → slice_get (slice_set slots p None) q ≡ Some s → passes None s ≡ true → ⊥
+  none q None f e at t = cc
+  none q (Some r) f e at t = k q (Some r) f e (get_cleared slots p q r at).0 refl
 
-pub Indexed-cleared : (slots : List (Option RuleView)) (tables : List Table) (places : List RulePlace) (chains chains' : Home → Option HomeChain) (ids ids' : ℕ → Option ℕ) (id p : ℕ) (home : Home) (next : Option ℕ)
-    → IsPlaceOf slots id p → IsFirst None (slice_set slots p None) places home p next
-    → ((h : Home) → chains' h ≡ (if same_home home h then moved p next (chains home) else chains h))
+chain_stays : (slots : List (Option RuleView)) (places : List RulePlace) (home h : Home) (p : ℕ) (chain : Option HomeChain) → home_at places p ≡ Some home → (home ≡ h → ⊥)
+    → IsChain slots places h chain → IsChain (slice_set slots p None) places h chain
+chain_stays slots places home h p None there other k = k
+chain_stays slots places home h p (Some c) there other k = record { lead = lead c.lead k.lead; last = k.last; greatest = k.greatest } where
+  lead : (o : Option Lead) → IsFirst None slots places h 0 o → IsFirst None (slice_set slots p None) places h 0 o
+  lead None l = none_stays slots places h p l
+  lead (Some x) l = first_stays slots places h p x (λ same. other (let e : Some home ≡ Some h = sym there ∙ ap (home_at places) (sym same) ∙ l.of_home in cc)) l
+
+-- the first behind is the first of all, where the first one was this one
+first_behind : (slots : List (Option RuleView)) (places : List RulePlace) (home : Home) (p : ℕ) (next : Option Lead)
+    → ((q : ℕ) (r : RuleView) → home_at places q ≡ Some home → slice_get slots q ≡ Some (Some r) → p ≤ q)
+    → IsFirst None (slice_set slots p None) places home p next → IsFirst None (slice_set slots p None) places home 0 next
+first_behind slots places home p None from k = none where
+  none : (q : ℕ) (s : Option RuleView) → 0 ≤ q → home_at places q ≡ Some home → slice_get (slice_set slots p None) q ≡ Some s → passes None s ≡ true → ⊥
+  none q None f e at t = cc
+  none q (Some r) f e at t = k q (Some r) (from q r e (get_cleared slots p q r at).0) e at refl
+first_behind slots places home p (Some n) from k = record { of_home = k.of_home; rule = k.rule; at = k.at; id = k.id; does = refl; least = least } where
+  least : (q : ℕ) (s : Option RuleView) → 0 ≤ q → home_at places q ≡ Some home → slice_get (slice_set slots p None) q ≡ Some s → passes None s ≡ true → n.place ≤ q
+  least q None f e at t = cc
+  least q (Some r) f e at t = k.least q (Some r) (from q r e (get_cleared slots p q r at).0) e at refl
+
+chain_moved : (slots : List (Option RuleView)) (places : List RulePlace) (home : Home) (p : ℕ) (next : Option Lead) (chain : Option HomeChain)
+    → IsFirst None (slice_set slots p None) places home p next → IsChain slots places home chain → IsChain (slice_set slots p None) places home (option_map (moved p next) chain)
+chain_moved slots places home p next None f k = k
+chain_moved slots places home p next (Some c) f k = record { lead = lead c.lead k.lead; last = k.last; greatest = k.greatest } where
+  lead : (o : Option Lead) → IsFirst None slots places home 0 o → IsFirst None (slice_set slots p None) places home 0 (led_behind p next o)
+  lead None l = none_stays slots places home p l
+  lead (Some x) l = by (nat_eq x.place p) refl where
+    by : (b : Bool) → nat_eq x.place p ≡ b → IsFirst None (slice_set slots p None) places home 0 (if b then next else Some x)
+    by true e =
+        let here : x.place ≡ p = eqb-true x.place p e in
+        first_behind slots places home p next (λ q r at slot. let le : x.place ≤ q = l.least q (Some r) (omega arith) at slot refl in omega arith) f
+    by false e = first_stays slots places home p x (λ same. let no : true ≡ false = sym (eq-eqb x.place p same) ∙ e in cc) l
+
+pub Indexed-cleared : (slots : List (Option RuleView)) (tables : List Table) (places : List RulePlace) (chains chains' : Home → Option HomeChain) (ids ids' : ℕ → Option ℕ) (id p : ℕ) (home : Home) (next : Option Lead)
+    → IsPlaceOf slots id p → home_at places p ≡ Some home → IsFirst None (slice_set slots p None) places home p next
+    → ((h : Home) → chains' h ≡ (if same_home home h then option_map (moved p next) (chains home) else chains h))
     → ((q : ℕ) → nat_eq id q ≡ false → ids' q ≡ ids q)
     → Indexed slots tables places chains ids → Indexed (slice_set slots p None) tables places chains' ids'
-Indexed-cleared slots tables places chains chains' ids ids' id p home next there first chains_are ids_are ok = record {
+Indexed-cleared slots tables places chains chains' ids ids' id p home next there of_home first chains_are ids_are ok = record {
   long = ok.long ∙ sym (length_cleared slots p);
   short = omega (arith, ok.short, length_cleared slots p);
   kept = λ q r x at e. ok.kept q r x (get_cleared slots p q r at).0 e;
@@ -72,9 +113,10 @@ Indexed-cleared slots tables places chains chains' ids ids' id p home next there
   chained = λ h. subst (IsChain (slice_set slots p None) places h) (sym (chains_are h)) (by h (same_home home h) refl);
   found = λ q r at. ids_are r.id (other q r at) ∙ ok.found q r (get_cleared slots p q r at).0;
 } where
-  by : (h : Home) (b : Bool) → same_home home h ≡ b → IsChain (slice_set slots p None) places h (if b then moved p next (chains home) else chains h)
-  by h true e = subst (λ (k : Home). IsChain (slice_set slots p None) places k (moved p next (chains home))) (same_home_is home h e) (chain_moved slots places home p next (chains home) first (ok.chained home))
-  by h false e = chain_stays slots places h p (chains h) (ok.chained h)
+  by : (h : Home) (b : Bool) → same_home home h ≡ b → IsChain (slice_set slots p None) places h (if b then option_map (moved p next) (chains home) else chains h)
+  by h true e = subst (λ (k : Home). IsChain (slice_set slots p None) places k (option_map (moved p next) (chains home))) (same_home_is home h e) (chain_moved slots places home p next (chains home) first (ok.chained home))
+  by h false e = chain_stays slots places home h p (chains h) of_home
+      (λ same. let t : true ≡ false = sym (same_home_self h) ∙ ap (λ (k : Home). same_home k h) (sym same) ∙ e in let no : ⊥ = cc in no) (ok.chained h)
 
   other : (q : ℕ) (r : RuleView) → slice_get (slice_set slots p None) q ≡ Some (Some r) → nat_eq id r.id ≡ false
   other q r at = ne_eqb id r.id (λ same. (get_cleared slots p q r at).1 (sym (distinct slots tables places chains ids ok p q there.rule r there.at (get_cleared slots p q r at).0 (there.is ∙ same))))

@@ -1,5 +1,5 @@
 -- The way along a home\'s places.
-use Rattle.std.proofs.Common.{◌≡◌, ℕ, ◌+◌, ◌-◌, ◌<◌, ◌≤◌, inl, inr, zero, suc, true, false, length, get_or, List, [], ◌∷◌, Option, None, Some, refl, sym, ap, subst, ◌∙◌, arith}
+use Rattle.std.proofs.Common.{◌≡◌, Bool, if◌then◌else◌, ℕ, ◌+◌, ◌-◌, ◌<◌, ◌≤◌, inl, inr, zero, suc, true, false, length, get_or, List, [], ◌∷◌, Option, None, Some, refl, sym, ap, subst, ◌∙◌, arith}
 use Rattle.std.proofs.Math.ListN.{set}
 use Rattle.std.proofs.lemmas.Bool.Decides.{eqb_tells}
 use Rattle.std.proofs.lemmas.Option.{slice_get_within}
@@ -9,7 +9,7 @@ use Rattle.packet_headers.specs.declared.items.LayerAt.{LayerAt}
 use Rattle.flow_rules.specs.RuleView.{RuleView}
 use Rattle.rule_index.specs.declared.table.Home.{Home}
 use Rattle.rule_index.specs.declared.chain.RulePlace.{RulePlace}
-use Rattle.rule_index.specs.Places.{passes, home_at, IsNext, AreLinked, IsFirst, relinked}
+use Rattle.rule_index.specs.Places.{passes, passing, home_at, IsNext, AreLinked, IsFirst, relinked}
 
 -- what passes is still to come
 pub record Coming (asked : Option (List LayerAt)) (slots : List (Option RuleView)) (places : List RulePlace) (home : Home) (from a : ℕ) : Type 0 where
@@ -52,9 +52,21 @@ ahead_next asked slots places home from a x s linked at slot misses coming = by 
   by None none = λ q t le h i p. none q (not_here q t i p (coming.least q t le h i p)) h
   by (Some n) next = record { of_home = next.1; behind = (let f = coming.behind in let g = next.0 in omega arith); least = λ q t le h i p. next.2 q (not_here q t i p (coming.least q t le h i p)) h }
 
-pub found : (asked : Option (List LayerAt)) (slots : List (Option RuleView)) (places : List RulePlace) (home : Home) (from a : ℕ) (s : Option RuleView)
-    → slice_get slots a ≡ Some s → passes asked s ≡ true → Coming asked slots places home from a → IsFirst asked slots places home from (Some a)
-found asked slots places home from a s slot p coming = record { of_home = coming.of_home; slot = s; at = slot; does = p; least = coming.least }
+-- what passes, by its id
+pub misses : (asked : Option (List LayerAt)) (s : Option RuleView) → None ≡ passing asked s → passes asked s ≡ false
+misses asked None e = refl
+misses asked (Some rule) e = by (passes asked (Some rule)) refl e where
+  by : (b : Bool) → passes asked (Some rule) ≡ b → None ≡ (if b then Some rule.id else None) → passes asked (Some rule) ≡ false
+  by true t n = cc
+  by false t n = t
+
+pub found : (asked : Option (List LayerAt)) (slots : List (Option RuleView)) (places : List RulePlace) (home : Home) (from a : ℕ) (s : Option RuleView) (id : ℕ)
+    → slice_get slots a ≡ Some s → Some id ≡ passing asked s → Coming asked slots places home from a → IsFirst asked slots places home from (Some (record { place = a; id = id }))
+found asked slots places home from a None id slot p coming = cc
+found asked slots places home from a (Some rule) id slot p coming = by (passes asked (Some rule)) refl p where
+  by : (b : Bool) → passes asked (Some rule) ≡ b → Some id ≡ (if b then Some rule.id else None) → IsFirst asked slots places home from (Some (record { place = a; id = id }))
+  by false t e = cc
+  by true t e = record { of_home = coming.of_home; rule = rule; at = slot; id = (let same : id ≡ rule.id = cc in sym same); does = t; least = coming.least }
 
 -- how many places are left
 abbrev pub left : List RulePlace → Option ℕ → ℕ

@@ -11,15 +11,10 @@ use Rattle.rule_index.specs.Places.{same_home, AreLinked, IsChain}
 use Rattle.rule_index.specs.Rank.{present}
 use Rattle.rule_index.specs.Tables.{IsHome}
 
--- a rule\'s place has its home and its id
-pub record IsKept (tables : List Table) (rule : RuleView) (place : RulePlace) : Type 0 where
-  pub home : IsHome tables rule place.home
-  pub id : place.id ≡ rule.id
-
 pub record Indexed (slots : List (Option RuleView)) (tables : List Table) (places : List RulePlace) (chains : Home → Option HomeChain) (ids : ℕ → Option ℕ) : Type 0 where
   pub long : length places ≡ length slots
   pub short : length slots ≤ 1048576
-  pub kept : (p : ℕ) (rule : RuleView) (x : RulePlace) → slice_get slots p ≡ Some (Some rule) → slice_get places p ≡ Some x → IsKept tables rule x
+  pub kept : (p : ℕ) (rule : RuleView) (x : RulePlace) → slice_get slots p ≡ Some (Some rule) → slice_get places p ≡ Some x → IsHome tables rule x.home
   pub linked : AreLinked places
   pub chained : (home : Home) → IsChain slots places home (chains home)
   pub found : (p : ℕ) (rule : RuleView) → slice_get slots p ≡ Some (Some rule) → ids rule.id ≡ Some p
@@ -31,7 +26,7 @@ abbrev pub place_of : Finder → ℕ → Option ℕ
 place_of finder id = hash.get nat_eq finder.ids id
 
 abbrev pub IsIndexed : List (Option RuleView) → Finder → Type 0
-IsIndexed slots finder = Indexed slots finder.tables.items finder.places.items (chain_of finder) (place_of finder)
+IsIndexed slots finder = Indexed slots finder.tables.list finder.places.items (chain_of finder) (place_of finder)
 
 -- no rule has this id
 abbrev pub HasNo : List (Option RuleView) → ℕ → Type 0

@@ -2,6 +2,7 @@ pub mod Lines
 pub mod Digest
 pub mod Exact
 pub mod Tables
+pub mod Turns
 pub mod Places
 pub mod Index
 pub mod Rank

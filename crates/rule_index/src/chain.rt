@@ -1,24 +1,30 @@
 //! Places, and the chains of the places that have one home.
 ghost use Rattle.std.specs.Prelude.{◌≡◌, ◌<◌, ◌++◌, ◌∷◌, [], length, Some, vec_len, vec_capacity};
 ghost use Rattle.std.specs.Option.{option_copied};
-ghost use Rattle.rule_index.specs.Places.{passes, home_at, AreLinked, IsFirst, relinked, linked_by, longer};
+ghost use Rattle.rule_index.specs.Places.{passing, home_at, AreLinked, IsFirst, relinked, linked_by, led_by, longer, led_behind, moved};
 
 use crate::slot::RuleSlot;
 use crate::table::Home;
 use packet_headers::Key;
 
-/// What is kept of a rule to find it: its home, its id, and the next place that has this home.
+/// What is kept of a rule to find it: its home, and the next place that has this home.
 #[derive(Clone, Copy)]
 pub(crate) struct RulePlace {
     pub(crate) home: Home,
-    pub(crate) id: u32,
     pub(crate) next: Option<u32>,
 }
 
-/// The ends of the places of a home. Those in front of the first have no rule any more.
+/// A rule that is there: its place and its id.
+#[derive(Clone, Copy)]
+pub(crate) struct Lead {
+    pub(crate) place: u32,
+    pub(crate) id: u32,
+}
+
+/// The first rule of a home, if it has one, and the last of its places, those without a rule among them.
 #[derive(Clone, Copy)]
 pub(crate) struct HomeChain {
-    pub(crate) first: u32,
+    pub(crate) lead: Option<Lead>,
     pub(crate) last: u32,
 }
 
@@ -29,29 +35,32 @@ pub(crate) struct Stock<'a> {
     pub(crate) places: &'a [RulePlace],
 }
 
-/// Whether a slot has a rule, and the rule accepts the frame if there is one to ask of. Rules that are there are counted.
+/// The id of the rule in a slot that passes.
 #[inline(always)]
-fn passes(slot: &RuleSlot, asked: Option<&Key>, seen: &mut u64) -> bool
-    ensures { result ≡ passes (option_copied asked.entry) slot.now }
+fn passing(slot: &RuleSlot, asked: Option<&Key>, seen: &mut u64) -> Option<u32>
+    ensures { result ≡ passing (option_copied asked.entry) slot.now }
 {
     let Some(rule) = slot.rule() else {
-        return false;
+        return None;
     };
     *seen = seen.saturating_add(1);
     let Some(key) = asked else {
-        return true;
+        return Some(rule.id());
     };
-    rule.test().matches(key)
+    if rule.test().matches(key) {
+        return Some(rule.id());
+    }
+    None
 }
 
-/// The first place of a home, from one on, whose slot passes.
+/// The first place of a home, from one on, whose slot passes, and the id of its rule.
 pub(crate) fn first_taken(
     kept: Stock<'_>,
     home: Home,
     from: u32,
     asked: Option<&Key>,
     seen: &mut u64,
-) -> Option<u32>
+) -> Option<Lead>
     requires long { length kept.places.now ≡ length kept.slots.now }
     requires linked { AreLinked kept.places.now }
     requires from { home_at kept.places.now from ≡ Some home }
@@ -59,8 +68,8 @@ pub(crate) fn first_taken(
 {
     let mut at = Some(from);
     while let Some(place) = at {
-        if passes(&kept.slots[place as usize], asked, seen) {
-            return Some(place);
+        if let Some(id) = passing(&kept.slots[place as usize], asked, seen) {
+            return Some(Lead { place, id });
         }
         at = kept.places[place as usize].next;
     }
@@ -97,18 +106,49 @@ pub(crate) fn append(places: &mut Vec<RulePlace>, last: Option<u32>, place: Rule
     places.push_reserved(place);
 }
 
+/// The first rule of a home with one more.
+fn led_by(lead: Option<Lead>, new: Lead) -> Lead
+    ensures { result ≡ led_by lead new }
+{
+    match lead {
+        None => new,
+        Some(lead) => lead,
+    }
+}
+
 /// The ends of a home's places with one more.
-pub(crate) fn longer(chain: Option<HomeChain>, place: u32) -> HomeChain
-    ensures { result ≡ longer chain place }
+pub(crate) fn longer(chain: Option<HomeChain>, new: Lead) -> HomeChain
+    ensures { result ≡ longer chain new }
 {
     match chain {
         None => HomeChain {
-            first: place,
-            last: place,
+            lead: Some(new),
+            last: new.place,
         },
         Some(chain) => HomeChain {
-            first: chain.first,
-            last: place,
+            lead: Some(led_by(chain.lead, new)),
+            last: new.place,
         },
+    }
+}
+
+/// The first rule of a home once that of a place is gone, where this is the first behind.
+fn led_behind(place: u32, next: Option<Lead>, lead: Option<Lead>) -> Option<Lead>
+    ensures { result ≡ led_behind place next lead }
+{
+    match lead {
+        None => None,
+        Some(lead) if lead.place == place => next,
+        Some(lead) => Some(lead),
+    }
+}
+
+/// The ends of a home's places once the rule of a place is gone.
+pub(crate) fn moved(place: u32, next: Option<Lead>, chain: HomeChain) -> HomeChain
+    ensures { result ≡ moved place next chain }
+{
+    HomeChain {
+        lead: led_behind(place, next, chain.lead),
+        last: chain.last,
     }
 }

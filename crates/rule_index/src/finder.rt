@@ -6,9 +6,10 @@ ghost use Rattle.flow_rules.specs.RuleView.{RuleView};
 ghost use Rattle.rule_index.specs.Index.{Adds, Stays, IsIndexed, HasNo, AreDistinct, IsFound, IsPlaceOf, rule_in};
 ghost use Rattle.rule_index.specs.Places.{same_home, last_of, longer, moved};
 
-use crate::chain::{HomeChain, RulePlace, Stock, append, first_taken, longer};
+use crate::chain::{HomeChain, Lead, RulePlace, Stock, append, first_taken, longer, moved};
 use crate::slot::RuleSlot;
-use crate::table::{Home, Table, home_of};
+use crate::table::{Home, home_of};
+use crate::tables::Tables;
 use flow_rules::Rule;
 use std::alloc::{AllocError, Global};
 use std::collections::HashMap;
@@ -16,7 +17,7 @@ use std::collections::HashMap;
 /// The tables, the places of the rules, the chain of each home, and the place of each id.
 #[derive(Drop)]
 pub(crate) struct Finder {
-    pub(crate) tables: Vec<Table>,
+    pub(crate) tables: Tables,
     pub(crate) places: Vec<RulePlace>,
     pub(crate) chains: HashMap<Home, HomeChain>,
     pub(crate) ids: HashMap<u32, u32>,
@@ -28,7 +29,7 @@ impl Finder {
         ensures { IsIndexed [] result }
     {
         Finder {
-            tables: Vec::new(alloc),
+            tables: Tables::new(alloc),
             places: Vec::new(alloc),
             chains: HashMap::new(alloc),
             ids: HashMap::new(alloc),
@@ -46,18 +47,18 @@ impl Finder {
     }
 }
 
-/// Makes a place the last one of its home, and tells the one that was the last.
+/// Makes the place of a rule the last one of its home, and tells the one that was the last.
 fn note(
     chains: &mut HashMap<Home, HomeChain>,
     home: Home,
-    place: u32,
+    new: Lead,
 ) -> Result<Option<u32>, AllocError>
     ensures before { IfOk result (λ last. last ≡ last_of (hash.get same_home chains.old home)) }
-    ensures ok { OnOk result ((h : Home) → hash.get same_home chains.new h ≡ (if same_home home h then Some (longer (hash.get same_home chains.old home) place) else hash.get same_home chains.old h)) }
+    ensures ok { OnOk result ((h : Home) → hash.get same_home chains.new h ≡ (if same_home home h then Some (longer (hash.get same_home chains.old home) new) else hash.get same_home chains.old h)) }
     ensures err { OnErr result ((h : Home) → hash.get same_home chains.new h ≡ hash.get same_home chains.old h) }
 {
     let before = chains.get(&home).copied();
-    chains.insert(home, longer(before, place))?;
+    chains.insert(home, longer(before, new))?;
     Ok(last_of(before))
 }
 
@@ -70,24 +71,14 @@ fn last_of(chain: Option<HomeChain>) -> Option<u32>
     }
 }
 
-/// Moves the first place of a home, where that was this one, to the next that has a rule.
-fn advance(chains: &mut HashMap<Home, HomeChain>, home: Home, place: u32, next: Option<u32>)
-    ensures { (h : Home) → hash.get same_home chains.new h ≡ (if same_home home h then moved place next (hash.get same_home chains.old home) else hash.get same_home chains.old h) }
+/// Where the rule of a place is gone, makes the first one behind it the first of its home, if it was that.
+fn advance(chains: &mut HashMap<Home, HomeChain>, home: Home, place: u32, next: Option<Lead>)
+    ensures { (h : Home) → hash.get same_home chains.new h ≡ (if same_home home h then option_map (moved place next) (hash.get same_home chains.old home) else hash.get same_home chains.old h) }
 {
     let Some(chain) = chains.get(&home).copied() else {
         return;
     };
-    let Some(first) = next else {
-        return;
-    };
-    if chain.first != place {
-        return;
-    }
-    let moved = HomeChain {
-        first,
-        last: chain.last,
-    };
-    match chains.insert(home, moved) {
+    match chains.insert(home, moved(place, next, chain)) {
         Ok(_) => {}
         Err(_) => unreachable!(),
     }
@@ -103,13 +94,12 @@ pub(crate) fn add(alloc: Global, finder: &mut Finder, rule: &Rule) -> Result<(),
     let home = home_of(alloc, &mut finder.tables, rule)?;
     let place = finder.places.as_slice().len() as u32;
     finder.ids.insert(rule.id(), place)?;
-    let last = note(&mut finder.chains, home, place)?;
-    let new = RulePlace {
-        home,
+    let lead = Lead {
+        place,
         id: rule.id(),
-        next: None,
     };
-    append(&mut finder.places, last, new);
+    let last = note(&mut finder.chains, home, lead)?;
+    append(&mut finder.places, last, RulePlace { home, next: None });
     Ok(())
 }
 

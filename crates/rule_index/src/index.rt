@@ -9,7 +9,7 @@ ghost use Rattle.rule_index.specs.IndexView.{no_rules, named};
 ghost use Rattle.rule_index.specs.Rank.{present};
 
 use crate::finder::{Finder, find, forget, put, renew, rule_at};
-use crate::scan::{id_at, least};
+use crate::scan::best_of;
 use crate::slot::RuleSlot;
 use flow_rules::Rule;
 use packet_headers::Key;
@@ -150,8 +150,10 @@ impl RuleIndex {
     pub fn best_counted(&self, group: u32, key: &Key, seen: &mut u64) -> Option<u32>
         ensures { result ≡ option_map (λ (rule : RuleView). rule.id) (spec.best self.now.rules group key.now) }
     {
-        let least = least(&self.finder, self.slots.as_slice(), group, key, seen);
-        id_at(self.finder.places.as_slice(), least)
+        match best_of(&self.finder, self.slots.as_slice(), group, key, seen) {
+            None => None,
+            Some(lead) => Some(lead.id),
+        }
     }
 
     /// The rule of this id, if there is one.

@@ -20,15 +20,17 @@
 //! **Why the answer is the plain one.** Layers that a rule accepts have the rule's digest, whatever else has it too. Where
 //! the masks leave room, each number is a digit of its own in the digest (`specs/Exact`), and then no other layers have it:
 //! nothing is compared, and a hit reads no rule. Else the rules of that digest are asked. Of one table's rules the earliest
-//! that accepts is the best, since they have one priority. So the best of a group is the least of one rank a table, the
-//! priority and then the place (`specs/Rank`), and a table whose priority comes behind the best so far is passed over.
+//! that accepts is the best, since they have one priority. Tables have turns, by groups and in each group by priorities
+//! (`specs/Turns`): the first that gives a rule tells the best priority, only tables of that one follow, and of what they
+//! give the earliest rule is the best of the group (`specs/Rank`).
 //!
 //! **Places.** Each insert takes a new place, behind all others, so places tell which rule is earlier. A table and a digest
-//! are a home, and the places of one home are a chain, the earliest first. `remove` empties a slot, and moves the chain's
-//! first place on if that was it. When more than half of the places are empty, and 64 more, an insert counts them anew:
-//! it makes tables and chains afresh from the rules that are there, before it touches the old ones. So what is kept stays
-//! within some twice of what the rules need. How long a call takes is claimed by no contract; an insert looks for its table
-//! in the list of all tables.
+//! are a home, and the places of one home are a chain, the earliest first. A chain keeps the place and the id of its first
+//! rule, which is all that a hit reads where digests are exact. `remove` empties a slot, and moves the chain on to its next
+//! rule if that was the first. When more than half of the places are empty, and 64 more, an insert counts them anew: it makes
+//! tables and chains afresh from the rules that are there, before it touches the old ones. So what is kept stays within some
+//! twice of what the rules need. How long a call takes is claimed by no contract; an insert looks for its table among those
+//! of its group and priority, and a new table moves the turns behind its own.
 //!
 //! **Model.** Contracts see the rules in the order of their inserts, and the number of inserts. Only `insert` takes memory,
 //! and where it finds none all is as it was. What matching reads of a rule lies beside its place; the rule itself lies apart,
@@ -46,6 +48,8 @@ mod line;
 mod scan;
 mod slot;
 mod table;
+mod tables;
+mod turn;
 mod wanted;
 
 pub use index::RuleIndex;

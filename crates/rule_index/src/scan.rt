@@ -1,42 +1,42 @@
 //! The tables of a group, one after another.
-ghost use Rattle.std.specs.Prelude.{◌≡◌, Some, slice_get, length};
-ghost use Rattle.std.specs.Option.{option_copied};
+ghost use Rattle.std.specs.Prelude.{◌≡◌, ◌<◌, length};
+ghost use Rattle.std.specs.HashMap as hash;
 ghost use Rattle.rule_index.specs.Index.{IsIndexed};
-ghost use Rattle.rule_index.specs.Rank.{rank, lesser, IsTakenIn, IsLeast, id_of, IsIn, asked_by, is_beaten};
+ghost use Rattle.rule_index.specs.Places.{same_home, lead_in};
+ghost use Rattle.rule_index.specs.Rank.{IsTakenIn, IsBest, earlier};
 
-use crate::chain::{RulePlace, Stock, first_taken};
+use crate::chain::{HomeChain, Lead, Stock, first_taken};
 use crate::finder::Finder;
 use crate::slot::RuleSlot;
-use crate::table::{Home, Table};
+use crate::table::Home;
+use crate::turn::{cut, order_of};
 use packet_headers::Key;
+use std::collections::HashMap;
 
-/// How many places there may be.
-const PLACES: u64 = 4_294_967_296;
-
-/// The frame to ask the rules of a table of: none where the digest tells that they accept it.
+/// The first rule of a home.
 #[inline(always)]
-fn asked_by(exact: bool, key: &Key) -> Option<&Key>
-    ensures { option_copied result ≡ asked_by exact key.now }
+fn lead_of(chains: &HashMap<Home, HomeChain>, home: Home) -> Option<Lead>
+    ensures { result ≡ lead_in (hash.get same_home chains.now home) }
 {
-    if exact {
-        return None;
+    match chains.get(&home) {
+        None => None,
+        Some(chain) => chain.lead,
     }
-    Some(key)
 }
 
-/// The first place of a table whose rule accepts the frame.
+/// The first rule of a table that accepts the frame.
 fn taken_in(
     finder: &Finder,
     slots: &[RuleSlot],
     number: usize,
-    table: &Table,
     key: &Key,
     seen: &mut u64,
-) -> Option<u32>
+) -> Option<Lead>
     requires indexed { IsIndexed slots.now finder.now }
-    requires table { slice_get finder.now.tables.items number ≡ Some table.now }
+    requires table { number < length finder.now.tables.list }
     ensures { IsTakenIn slots.now finder.now.places.items number key.now result }
 {
+    let table = &finder.tables.list()[number];
     let Some(digest) = table.digest(key) else {
         return None;
     };
@@ -44,74 +44,56 @@ fn taken_in(
         digest,
         table: number,
     };
-    let Some(chain) = finder.chains.get(&home) else {
+    let Some(lead) = lead_of(&finder.chains, home) else {
         return None;
     };
+    if table.exact {
+        *seen = seen.saturating_add(1);
+        return Some(lead);
+    }
     let kept = Stock {
         slots,
         places: finder.places.as_slice(),
     };
-    let asked = asked_by(table.exact, key);
-    first_taken(kept, home, chain.first, asked, seen)
+    first_taken(kept, home, lead.place, Some(key), seen)
 }
 
-/// Whether no rule of this priority can have a lesser rank.
+/// The earlier of two rules, if there are two.
 #[inline(always)]
-fn is_beaten(least: Option<u64>, priority: u32) -> bool
-    ensures { result ≡ is_beaten least priority }
+fn earlier(best: Option<Lead>, lead: Lead) -> Lead
+    ensures { result ≡ earlier best lead }
 {
-    match least {
-        None => false,
-        Some(rank) => rank / PLACES < priority as u64,
+    match best {
+        None => lead,
+        Some(first) if lead.place < first.place => lead,
+        Some(first) => first,
     }
 }
 
-/// The lesser of a rank and that of a place.
-#[inline(always)]
-fn lesser(least: Option<u64>, priority: u32, place: u32) -> u64
-    ensures { result ≡ lesser least (rank priority place) }
-{
-    let rank = priority as u64 * PLACES + place as u64;
-    match least {
-        None => rank,
-        Some(other) => other.min(rank),
-    }
-}
-
-/// The least rank of the rules of a group that take a frame.
-pub(crate) fn least(
+/// The best rule of a group for a frame: the first table that gives one tells the priority, and only tables of that one follow.
+pub(crate) fn best_of(
     finder: &Finder,
     slots: &[RuleSlot],
     group: u32,
     key: &Key,
     seen: &mut u64,
-) -> Option<u64>
+) -> Option<Lead>
     requires { IsIndexed slots.now finder.now }
-    ensures { IsLeast slots.now group key.now result }
+    ensures { IsBest slots.now group key.now result }
 {
-    let mut least = None;
-    for (number, table) in finder.tables.as_slice().iter().enumerate() {
-        if table.group != group {
-            continue;
+    let turns = finder.tables.turns();
+    let mut last = order_of(group, u32::MAX);
+    let mut best = None;
+    for place in cut(turns, order_of(group, 0))..turns.len() {
+        let turn = turns[place];
+        if turn.order > last {
+            return best;
         }
-        if is_beaten(least, table.priority) {
-            continue;
-        }
-        let Some(place) = taken_in(finder, slots, number, table, key, seen) else {
+        let Some(lead) = taken_in(finder, slots, turn.number, key, seen) else {
             continue;
         };
-        least = Some(lesser(least, table.priority, place));
+        last = turn.order;
+        best = Some(earlier(best, lead));
     }
-    least
-}
-
-/// The id at the place of a rank.
-pub(crate) fn id_at(places: &[RulePlace], least: Option<u64>) -> Option<u32>
-    requires { IsIn places.now least }
-    ensures { result ≡ id_of places.now least }
-{
-    match least {
-        None => None,
-        Some(rank) => Some(places[(rank % PLACES) as usize].id),
-    }
+    best
 }

@@ -1,10 +1,12 @@
-//! The tables of an index.
+//! A table of an index, and which table is a rule's.
 ghost use Rattle.std.specs.Prelude.{◌≡◌, IsTrue, List, IfOk, IfSome, None, Some};
 ghost use Rattle.std.specs.Option.{option_map};
 ghost use Rattle.rule_index.specs.Tables.{digest_in, IsEven, lines_of, IsOf, IsAt, IsHome, Grows};
 
 use crate::digest::{Digester, digest_by};
 use crate::line::{ShapeLine, are_lines_by, lines_by};
+use crate::tables::Tables;
+use crate::turn::{cut, order_of};
 use crate::wanted::Wanted;
 use flow_rules::Rule;
 use packet_headers::Key;
@@ -94,14 +96,20 @@ fn is_of(table: &Table, wanted: &Wanted) -> bool
     are_lines_of(&table.lines, &wanted.shape)
 }
 
-/// The first table that is what is wanted.
-fn table_of(tables: &[Table], wanted: &Wanted) -> Option<usize>
+/// The table that is what is wanted, if there is one.
+fn table_of(tables: &Tables, wanted: &Wanted) -> Option<usize>
     requires { IsEven wanted.now.shape }
-    ensures { IfSome result (IsAt tables.now wanted.now) }
+    ensures { IfSome result (IsAt tables.now.list wanted.now) }
 {
-    for (number, table) in tables.iter().enumerate() {
-        if is_of(table, wanted) {
-            return Some(number);
+    let order = order_of(wanted.group, wanted.priority);
+    let turns = tables.turns();
+    for place in cut(turns, order)..turns.len() {
+        let turn = turns[place];
+        if turn.order != order {
+            return None;
+        }
+        if is_of(&tables.list()[turn.number], wanted) {
+            return Some(turn.number);
         }
     }
     None
@@ -122,28 +130,24 @@ fn table_for(alloc: Global, wanted: &Wanted) -> Result<Table, AllocError>
 }
 
 /// The number of the wanted table, which is made where there is none.
-fn number_of(alloc: Global, tables: &mut Vec<Table>, wanted: &Wanted) -> Result<usize, AllocError>
+fn number_of(alloc: Global, tables: &mut Tables, wanted: &Wanted) -> Result<usize, AllocError>
     requires { IsEven wanted.now.shape }
-    ensures grows { Grows tables.old.items tables.new.items }
-    ensures is { IfOk result (IsAt tables.new.items wanted.now) }
+    ensures grows { Grows tables.old.list tables.new.list }
+    ensures is { IfOk result (IsAt tables.new.list wanted.now) }
 {
-    if let Some(number) = table_of(tables.as_slice(), wanted) {
+    if let Some(number) = table_of(tables, wanted) {
         return Ok(number);
     }
     let table = table_for(alloc, wanted)?;
-    let number = tables.len();
+    let number = tables.list().len();
     tables.push(table)?;
     Ok(number)
 }
 
 /// Where a rule is at home.
-pub(crate) fn home_of(
-    alloc: Global,
-    tables: &mut Vec<Table>,
-    rule: &Rule,
-) -> Result<Home, AllocError>
-    ensures grows { Grows tables.old.items tables.new.items }
-    ensures home { IfOk result (IsHome tables.new.items rule.now) }
+pub(crate) fn home_of(alloc: Global, tables: &mut Tables, rule: &Rule) -> Result<Home, AllocError>
+    ensures grows { Grows tables.old.list tables.new.list }
+    ensures home { IfOk result (IsHome tables.new.list rule.now) }
 {
     let wanted = Wanted::by(rule);
     let table = number_of(alloc, tables, &wanted)?;

@@ -19,7 +19,7 @@ pub returns : goal.returns
 returns c =
     let there : IsPlaceOf c.self.inside.slots.items c.args.id c.in-Some.place =
     subst (λ (xs : List (Option RuleView)). IsPlaceOf xs c.args.id c.in-Some.place) c.as_slice.ensures.value (subst (IsFound c.as_slice.result.now c.args.id) c.in-Some.is c.find.ensures) in
-    let apart = distinct c.self.inside.slots.items c.self.inside.finder.tables.items c.self.inside.finder.places.items (chain_of c.self.inside.finder) (place_of c.self.inside.finder) c.self.invariant.indexed in
+    let apart = distinct c.self.inside.slots.items c.self.inside.finder.tables.list c.self.inside.finder.places.items (chain_of c.self.inside.finder) (place_of c.self.inside.finder) c.self.invariant.indexed in
     let is : c.forget.new.slots ≡ slice_set c.self.inside.slots.items c.in-Some.place None =
     c.forget.ensures.slots ∙ ap (λ (xs : List (Option RuleView)). slice_set xs c.in-Some.place None) c.as_mut_slice.ensures.value in
     let long : c.self.inside.slots.len ≡ length c.forget.new.slots =
