@@ -3,3 +3,4 @@ mod OwnIds
 mod PathEdits
 mod SharedEntries
 mod Steps
+mod WalkedLayers

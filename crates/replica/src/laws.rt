@@ -1,5 +1,5 @@
 //! Laws of the definitions.
-ghost use Rattle.std.specs.Prelude.{◌≡◌, ◌↔◌, ◌++◌, List, fold};
+ghost use Rattle.std.specs.Prelude.{◌≡◌, ◌↔◌, ◌++◌, List, ℕ, fold};
 ghost use Rattle.packet_headers.specs.declared.items.LayerAt.{LayerAt};
 ghost use Rattle.flow_rules.specs.declared.change.Change.{Change};
 ghost use Rattle.flow_rules.specs.declared.limits.Limits.{Limits};
@@ -10,6 +10,7 @@ ghost use Rattle.flow_rules.specs.Walk.{Flows};
 ghost use Rattle.replica.specs.Caught.{ReplicaView, caught_up};
 ghost use Rattle.replica.specs.Lawful.{AreLawful};
 ghost use Rattle.replica.specs.Path.{AreOfPath};
+ghost use Rattle.replica.specs.Rewritten.{AreWalked};
 
 /// Changes are lawful just where their first part is, and the others are behind it. A replica that catches up with both parts,
 /// one behind the other, is where one is that catches up with all at once.
@@ -23,4 +24,10 @@ pub fn changes_come_in_parts()
 /// edit it.
 pub fn edits_are_those_of_the_path()
     ensures { (flows : Flows) (layers : List LayerAt) → HaveOwnIds flows.rules → AreSharedOn flows.rxq flows.shared → AreOfPath flows layers }
+{}
+
+/// The edits of a frame's bytes are done on the layers as they were in the walk: behind the last edit the layers are those with
+/// which the walk ended.
+pub fn bytes_are_edited_as_the_layers_were()
+    ensures { (flows : Flows) (layers : List LayerAt) (bytes : List ℕ) → AreWalked flows layers bytes }
 {}

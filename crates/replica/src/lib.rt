@@ -24,7 +24,8 @@
 //! changes that were applied, and may go on from there.
 //!
 //! **Bytes.** `specs/Rewritten` has the bytes of a frame behind its walk: each edit of the walk is done on the layers and on
-//! the bytes, one behind the other. The code walks once for the path. The edits of a walk are those of the rules on its path, in
+//! the bytes, one behind the other; the layers then are those with which the walk ended
+//! (`bytes_are_edited_as_the_layers_were`). The code walks once for the path. The edits of a walk are those of the rules on its path, in
 //! order, since no action that rules share is an edit (`edits_are_those_of_the_path`), so it looks each of these rules up and
 //! does its edits. Only a key is copied, and no header is found anew.
 //!
@@ -40,5 +41,7 @@ mod rewriting;
 mod rule_list;
 mod shared_actions;
 
-pub use laws::{changes_come_in_parts, edits_are_those_of_the_path};
+pub use laws::{
+    bytes_are_edited_as_the_layers_were, changes_come_in_parts, edits_are_those_of_the_path,
+};
 pub use replica::Replica;
