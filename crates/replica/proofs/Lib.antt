@@ -1,4 +1,5 @@
 mod Entries
+mod Keeping
 mod OwnIds
 mod PathEdits
 mod SharedEntries

@@ -42,6 +42,7 @@ mod rule_list;
 mod shared_actions;
 
 pub use laws::{
-    bytes_are_edited_as_the_layers_were, changes_come_in_parts, edits_are_those_of_the_path,
+    bytes_are_edited_as_the_layers_were, changes_come_in_parts, changes_keep_what_may_be_in_effect,
+    edits_are_those_of_the_path,
 };
 pub use replica::Replica;
