@@ -1,5 +1,5 @@
 //! A bank of counters.
-ghost use Rattle.std.specs.Prelude.{◌≡◌, ℕ, ◌-◌, ◌<◌, ◌^◌, List, IfOk, replicate, set, get_or, length};
+ghost use Rattle.std.specs.Prelude.{◌≡◌, ◌-◌, ◌<◌, ◌^◌, IfOk, replicate, set, get_or, length};
 ghost use Rattle.indirect_counters.specs.Counts.{no_count, counted};
 
 use flow_rules::Count;

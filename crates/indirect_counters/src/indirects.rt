@@ -1,10 +1,11 @@
 //! The actions that rules share, by id.
-ghost use Rattle.std.specs.Prelude.{◌≡◌, ℕ, ◌+◌, ◌-◌, ◌*◌, ◌<◌, ◌≤◌, ◌^◌, [], length, is_some, IsSome, IfSome, IsOk, IfOk, OnOk, OnErr, None, Some, MatchResult, false, true};
-ghost use Rattle.std.specs.Option.{option_copied, option_map};
+ghost use Rattle.std.specs.Prelude.{◌≡◌, ℕ, ◌-◌, ◌<◌, ◌≤◌, ◌^◌, [], length, IsSome, IfSome, IfOk, OnOk, OnErr, None, MatchResult, true};
+ghost use Rattle.std.specs.Option.{option_copied};
 ghost use Rattle.std.specs.Result.{result_err};
 ghost use Rattle.flow_rules.specs.Shared.{IsSharedOn};
-ghost use Rattle.object_ids.specs.Ids.{id_for};
-ghost use Rattle.indirect_counters.specs.Entries.{entry_at, in_effect_at, value_at, count_at, kind_at};
+ghost use Rattle.flow_rules.specs.Faults.{first};
+ghost use Rattle.object_ids.specs.Ids.{id_for, id_faults};
+ghost use Rattle.indirect_counters.specs.Entries.{entry_at, in_effect_at, value_at, count_at};
 ghost use Rattle.indirect_counters.specs.Effects.{added, without, activated, updated, adopted, released, raised};
 ghost use Rattle.indirect_counters.specs.Refusals.{create_fault, is_same_kind, update_fault, destroy_fault, IsDue};
 ghost use Rattle.indirect_counters.specs.Sound.{Sound, AreOn, CanAdd};
@@ -133,6 +134,13 @@ impl Indirects {
         if is_bad_value(limits.rxq, 0, action) {
             return Some(fault(Cause::ActionConf));
         }
+        self.place_fault(id)
+    }
+
+    /// Why there is no place for one more, if there is none: its id is in use, or all places are taken.
+    fn place_fault(&self, id: Option<u16>) -> Option<Fault>
+        ensures { result ≡ first (id_faults 1024 id self.now.entries) }
+    {
         id_fault(&self.map, id, MOST)
     }
 
