@@ -7,8 +7,9 @@ use flow_rules::{Attr, Known, Limits, Rule, RuleSpec, validate};
 use packet_headers::ItemKind;
 use pattern_items::{Fields, Item, MAX_ITEMS, Pattern};
 use rule_index::RuleIndex;
-use std::alloc::AllocError;
+use std::alloc::{AllocError, Global};
 use std::process::Abort;
+use std::sync::Arc;
 
 /// No action is shared.
 pub struct NoneShared;
@@ -103,4 +104,16 @@ pub fn put(rt: &impl Abort, index: &mut RuleIndex, rule: &Rule) -> Result<(), Al
     assert!(rt; index.len() < 131_072);
     assert!(rt; index.inserts() < u64::MAX);
     index.insert(rule)
+}
+
+/// The same without a copy.
+pub fn put_shared(
+    rt: &impl Abort,
+    index: &mut RuleIndex,
+    rule: &Arc<Rule, Global>,
+) -> Result<(), AllocError> {
+    assert!(rt; index.rule(rule.id()).is_none());
+    assert!(rt; index.len() < 131_072);
+    assert!(rt; index.inserts() < u64::MAX);
+    index.insert_shared(rule)
 }

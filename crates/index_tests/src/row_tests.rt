@@ -1,13 +1,14 @@
 //! Which rule is the best, row by row, and how many rules are compared.
 ghost use Rattle.std.specs.Prelude.{◌<◌};
 
-use crate::made::{any, asks, put, rule};
+use crate::made::{any, asks, put, put_shared, rule};
 use flow_rules::Rule;
 use packet_headers::{ItemKind, Key, parse};
 use pattern_items::Fields;
 use rule_index::RuleIndex;
 use std::alloc::{AllocError, Global};
 use std::process::Abort;
+use std::sync::Arc;
 use std::test::Fail;
 use test_frames::{IPV6_FRAME, UDP_FRAME};
 
@@ -98,6 +99,39 @@ fn equal_priorities_keep_the_order_of_inserts(rt: HostRuntime) -> Result<(), Fai
         let index = index_behind(&rt, rt.alloc(), steps)?;
         assert_eq!(rt; index.best(0, &key), want, "{name}");
     }
+    Ok(())
+}
+
+/// Puts a rule into both of two indexes, without a copy.
+fn put_into_both(
+    rt: &impl Abort,
+    one: &mut RuleIndex,
+    other: &mut RuleIndex,
+    rule: &Arc<Rule, Global>,
+) -> Result<(), AllocError> {
+    put_shared(rt, one, rule)?;
+    put_shared(rt, other, rule)
+}
+
+/// Two indexes that share one rule.
+fn two_that_share(alloc: Global, rt: &impl Abort) -> Result<(RuleIndex, RuleIndex), AllocError> {
+    let shared = Arc::new(alloc, by_id(rt, 1))?;
+    let mut one = RuleIndex::new(alloc)?;
+    let mut other = RuleIndex::new(alloc)?;
+    put_into_both(rt, &mut one, &mut other, &shared)?;
+    Ok((one, other))
+}
+
+#[test]
+fn two_indexes_share_a_rule(rt: HostRuntime) -> Result<(), Fail> {
+    let key = parse(&UDP_FRAME);
+    let (mut one, other) = two_that_share(rt.alloc(), &rt)?;
+    assert_eq!(rt; one.best(0, &key), Some(1));
+    one.remove(1);
+    assert_eq!(rt; one.best(0, &key), None);
+    assert!(rt; one.rule(1).is_none());
+    assert_eq!(rt; other.best(0, &key), Some(1));
+    assert!(rt; other.rule(1).is_some());
     Ok(())
 }
 

@@ -182,22 +182,23 @@ pub(crate) fn renew(
     Ok(())
 }
 
-/// One rule more, in a slot behind the others.
+/// One rule more, in its slot behind the others.
 pub(crate) fn put(
     alloc: Global,
     slots: &mut Vec<RuleSlot>,
     finder: &mut Finder,
     rule: &Rule,
+    slot: RuleSlot,
 ) -> Result<(), AllocError>
     requires indexed { IsIndexed slots.old.items finder.old }
     requires few { length slots.old.items < 1048576 }
     requires new { HasNo slots.old.items rule.now.id }
+    requires slot { slot ≡ Some rule.now }
     ensures indexed { IsIndexed slots.new.items finder.new }
     ensures ok { OnOk result (slots.new.items ≡ slots.old.items ++ Some rule.now ∷ []) }
     ensures err { OnErr result (slots.new.items ≡ slots.old.items) }
 {
     slots.reserve(1)?;
-    let slot = RuleSlot::new(alloc, rule)?;
     add(alloc, finder, rule)?;
     slots.push_reserved(slot);
     Ok(())

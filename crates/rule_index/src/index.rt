@@ -1,6 +1,7 @@
 //! The index.
-ghost use Rattle.std.specs.Prelude.{◌≡◌, ◌<◌, ◌+◌, ◌^◌, ◌-◌, ◌++◌, ◌∷◌, [], None, false, length, IfOk, OnOk, OnErr};
+ghost use Rattle.std.specs.Prelude.{◌≡◌, ◌<◌, ◌+◌, ◌^◌, ◌-◌, ◌++◌, ◌∷◌, [], None, Some, false, length, IfOk, OnOk, OnErr};
 ghost use Rattle.std.specs.Option.{option_map};
+ghost use Rattle.std.specs.Arc.{arc_value};
 ghost use Rattle.flow_rules.specs.Best as spec;
 ghost use Rattle.flow_rules.specs.RuleView.{RuleView};
 ghost use Rattle.flow_rules.specs.Changes.{without};
@@ -15,6 +16,7 @@ use flow_rules::Rule;
 use packet_headers::Key;
 use std::alloc::{AllocError, Global};
 use std::marker::Model;
+use std::sync::Arc;
 
 /// The most places, those of removed rules among them: far more than there may be rules.
 const MAX_PLACES: usize = 1_048_576;
@@ -90,6 +92,22 @@ impl RuleIndex {
         })
     }
 
+    /// Puts the rule behind the others, in its slot.
+    fn enter(&mut self, rule: &Rule, slot: RuleSlot) -> Result<(), AllocError>
+        requires new { named rule.now.id self.old.rules ≡ None }
+        requires few { length self.old.rules < 131072 }
+        requires inserts { self.old.inserts < 2 ^ 64 - 1 }
+        requires slot { slot ≡ Some rule.now }
+        ensures ok { OnOk result (self.new ≡ record { rules = self.old.rules ++ rule.now ∷ []; inserts = self.old.inserts + 1 }) }
+        ensures err { OnErr result (self.new ≡ self.old) }
+    {
+        make_room(self.alloc, &mut self.slots, &mut self.finder, self.count)?;
+        put(self.alloc, &mut self.slots, &mut self.finder, rule, slot)?;
+        self.count += 1;
+        self.inserts += 1;
+        Ok(())
+    }
+
     /// Puts a copy of the rule behind the others.
     pub fn insert(&mut self, rule: &Rule) -> Result<(), AllocError>
         requires new { named rule.now.id self.old.rules ≡ None }
@@ -98,11 +116,20 @@ impl RuleIndex {
         ensures ok { OnOk result (self.new ≡ record { rules = self.old.rules ++ rule.now ∷ []; inserts = self.old.inserts + 1 }) }
         ensures err { OnErr result (self.new ≡ self.old) }
     {
-        make_room(self.alloc, &mut self.slots, &mut self.finder, self.count)?;
-        put(self.alloc, &mut self.slots, &mut self.finder, rule)?;
-        self.count += 1;
-        self.inserts += 1;
-        Ok(())
+        let slot = RuleSlot::with_copy(self.alloc, rule)?;
+        self.enter(rule, slot)
+    }
+
+    /// The same without a copy: this index and all others that get it share the rule.
+    pub fn insert_shared(&mut self, rule: &Arc<Rule, Global>) -> Result<(), AllocError>
+        requires new { named (arc_value rule.now).id self.old.rules ≡ None }
+        requires few { length self.old.rules < 131072 }
+        requires inserts { self.old.inserts < 2 ^ 64 - 1 }
+        ensures ok { OnOk result (self.new ≡ record { rules = self.old.rules ++ arc_value rule.now ∷ []; inserts = self.old.inserts + 1 }) }
+        ensures err { OnErr result (self.new ≡ self.old) }
+    {
+        let slot = RuleSlot::with_share(rule)?;
+        self.enter(rule, slot)
     }
 
     /// How many rules there are.

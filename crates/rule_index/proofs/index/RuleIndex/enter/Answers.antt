@@ -3,7 +3,7 @@ use Rattle.flow_rules.specs.RuleView.{RuleView}
 use Rattle.rule_index.specs.IndexView.{IndexView, named}
 use Rattle.rule_index.specs.Rank.{present}
 use Rattle.rule_index.proofs.Views.{none_of, present_push, view_same}
-use Rattle.rule_index.proofs.index.RuleIndex.insert.Goals as goal
+use Rattle.rule_index.proofs.index.RuleIndex.enter.Goals as goal
 
 pub put-requires-clause-new : goal.put-requires-clause-new
 put-requires-clause-new c = none_of c.make_room.new.slots.items c.args.rule.now.id
