@@ -1,2 +1,3 @@
+mod Closed
 mod Going
-mod Placed
+pub mod Placed

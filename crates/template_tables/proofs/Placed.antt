@@ -24,7 +24,7 @@ module _ {X : Type 0} (test : ℕ → Bool) where
       let fails = head_fails x xs none in
       ap (λ b. cond b (Some x.1) (lookup test (xs ++ e ∷ ys))) fails.0 ∙ lookup-behind xs ys e fails.1 here
 
-  remove-behind : (xs ys : List (ℕ × X)) (e : ℕ × X) → lookup test xs ≡ None → test e.0 ≡ true → remove_entry test (xs ++ e ∷ ys) ≡ xs ++ ys
+  pub remove-behind : (xs ys : List (ℕ × X)) (e : ℕ × X) → lookup test xs ≡ None → test e.0 ≡ true → remove_entry test (xs ++ e ∷ ys) ≡ xs ++ ys
   remove-behind [] ys e none here = ap (λ b. cond b ys (e ∷ remove_entry test ys)) here
   remove-behind (x ∷ xs) ys e none here =
       let fails = head_fails x xs none in

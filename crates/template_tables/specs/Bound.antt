@@ -18,9 +18,10 @@ use Rattle.template_tables.specs.TemplatesView.{TemplatesView, table_of}
 abbrev pub template_at : {T : Type 0} → List (ℕ × T) → List ℕ → ℕ → Option T
 template_at templates ids index = option_and_then (λ id. lookup (nat_eq id) templates) (slice_get ids index)
 
+-- each template that a table names is there
 abbrev pub faults_with : Option PatternTemplate → Option ActionsTemplate → Pattern → Actions → List Fault
 faults_with (Some items) (Some list) pattern actions = binding_faults items list pattern actions
-faults_with _ _ pattern actions = record { cause = causes.NoObject; at = 0 } ∷ []
+faults_with _ _ pattern actions = []
 
 abbrev pub faults_in : TemplatesView → Option TableView → ℕ → ℕ → Pattern → Actions → List Fault
 faults_in t None pt act pattern actions = record { cause = causes.NoObject; at = 0 } ∷ []

@@ -11,7 +11,9 @@ use Rattle.flow_rules.specs.declared.fault.TplFault.{TplFault}
 use Rattle.flow_rules.specs.declared.fault.TplFault.TheVariants as refusals
 use Rattle.flow_rules.specs.Faults.{fault_if, attr_faults}
 use Rattle.object_ids.specs.Ids.{is_used, id_faults}
+use Rattle.rule_binding.specs.declared.template.ActionsTemplate.{ActionsTemplate}
 use Rattle.rule_binding.specs.declared.template.Masks.{Masks}
+use Rattle.rule_binding.specs.declared.template.PatternTemplate.{PatternTemplate}
 use Rattle.rule_binding.specs.Templates.{pattern_faults, actions_faults}
 use Rattle.template_tables.specs.TableView.{TableView}
 use Rattle.template_tables.specs.TemplatesView.{TemplatesView, table_of}
@@ -34,6 +36,10 @@ is_out_of_range rules others = nat_eq rules 0 || nat_lt 65536 (others + rules)
 -- one of the ids isn't in use
 abbrev pub is_any_missing : {T : Type 0} → List (ℕ × T) → List ℕ → Bool
 is_any_missing objects ids = list_any (λ id. not (is_used id objects)) ids
+
+-- a table names a template that isn't there
+abbrev pub is_without : List (ℕ × PatternTemplate) → List (ℕ × ActionsTemplate) → TableView → Bool
+is_without patterns actions table = is_any_missing patterns table.patterns || is_any_missing actions table.actions
 
 abbrev pub table_refusals : TemplatesView → Option ℕ → Attr → ℕ → List ℕ → List ℕ → List Fault
 table_refusals t id attr rules_number patterns actions =

@@ -12,7 +12,7 @@
 //! ```
 //!
 //! A template that a table names, and a table with a taken slot, can't be destroyed. An object without a given id gets the
-//! least one that isn't in use.
+//! least one that isn't in use. So between calls each template that a table names is there.
 //!
 //! The model: templates and tables are plain lists by id, in the order in which they were made (`specs/TemplatesView`). A table has
 //! the attributes of its rules, the ids of its templates, its number of rules, its slots as a list of rule ids, each reserved or

@@ -1,5 +1,6 @@
 //! New templates and tables.
-ghost use Rattle.std.specs.Prelude.{◌≡◌, [], ◌∷◌, ◌++◌, None, IfOk, IfErr, OnOk, OnErr};
+ghost use Rattle.std.specs.Prelude.{◌≡◌, [], ◌∷◌, ◌++◌, nat_eq, None, IfOk, IfErr, OnOk, OnErr};
+ghost use Rattle.std.specs.Map.{lookup};
 ghost use Rattle.flow_rules.specs.Faults.{first};
 ghost use Rattle.object_ids.specs.Ids.{id_for};
 ghost use Rattle.rule_binding.specs.Templates.{template_of, actions_template_of};
@@ -52,6 +53,7 @@ impl Templates {
     ) -> Result<u16, TplFault>
         ensures lawful { OnOk result (first (pattern_refusals self.old id attr.now pattern.now) ≡ None) }
         ensures id { IfOk result (λ given. given ≡ id_for id self.old.patterns) }
+        ensures fresh { OnOk result (lookup (nat_eq (id_for id self.old.patterns)) self.old.patterns ≡ None) }
         ensures made { OnOk result (self.new ≡ record self.old { patterns = self.old.patterns ++ (id_for id self.old.patterns, template_of pattern.now) ∷ [] }) }
         ensures refused { IfErr result (IsAnswerTo (first (pattern_refusals self.old id attr.now pattern.now))) }
         ensures stays { OnErr result (self.new ≡ self.old) }
@@ -102,6 +104,7 @@ impl Templates {
     ) -> Result<u16, TplFault>
         ensures lawful { OnOk result (first (actions_refusals self.old id attr.now actions.now masks.now) ≡ None) }
         ensures id { IfOk result (λ given. given ≡ id_for id self.old.actions) }
+        ensures fresh { OnOk result (lookup (nat_eq (id_for id self.old.actions)) self.old.actions ≡ None) }
         ensures made { OnOk result (self.new ≡ record self.old { actions = self.old.actions ++ (id_for id self.old.actions, actions_template_of actions.now masks.now) ∷ [] }) }
         ensures refused { IfErr result (IsAnswerTo (first (actions_refusals self.old id attr.now actions.now masks.now))) }
         ensures stays { OnErr result (self.new ≡ self.old) }
@@ -163,6 +166,7 @@ impl Templates {
     ) -> Result<u16, TplFault>
         ensures lawful { OnOk result (first (table_refusals self.old id attr.now rules_number patterns.now.items actions.now.items) ≡ None) }
         ensures id { IfOk result (λ given. given ≡ id_for id self.old.tables) }
+        ensures fresh { OnOk result (lookup (nat_eq (id_for id self.old.tables)) self.old.tables ≡ None) }
         ensures made { OnOk result (self.new ≡ record self.old { tables = self.old.tables ++ (id_for id self.old.tables, empty_table attr.now rules_number patterns.now.items actions.now.items) ∷ [] }) }
         ensures refused { IfErr result (IsAnswerTo (first (table_refusals self.old id attr.now rules_number patterns.now.items actions.now.items))) }
         ensures stays { OnErr result (self.new ≡ self.old) }

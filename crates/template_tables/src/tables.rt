@@ -57,9 +57,10 @@ impl Templates {
         if self.slots_left(table) == 0 {
             return Err(fault(Cause::TableFull));
         }
-        if let Some(table) = self.tables.get_mut(&table) {
-            table.reserve(id);
-        }
+        let Some(table) = self.tables.get_mut(&table) else {
+            return Ok(());
+        };
+        table.reserve(id);
         Ok(())
     }
 
@@ -69,9 +70,10 @@ impl Templates {
         requires reserved { IfSome (table_of table self.old) (λ (t : TableView). lookup (nat_eq (box_value rule).id) t.slots ≡ Some None) }
         ensures { self.new ≡ with_table table (settled (box_value rule)) self.old }
     {
-        if let Some(table) = self.tables.get_mut(&table) {
-            table.settle(rule);
-        }
+        let Some(table) = self.tables.get_mut(&table) else {
+            return;
+        };
+        table.settle(rule);
     }
 
     /// Empties the slot of an id, where a rule is settled there, and gives the rule back.

@@ -21,11 +21,11 @@ impl Model for Templates {
 
     ghost Value = { TemplatesView };
 
-    ghost use Rattle.template_tables.specs.TemplatesInside.{templates_view, AreFew};
+    ghost use Rattle.template_tables.specs.TemplatesInside.{templates_view, IsKept};
 
     ghost view = { templates_view };
 
-    ghost invariant = { AreFew };
+    ghost invariant = { IsKept };
 }
 
 impl Templates {
