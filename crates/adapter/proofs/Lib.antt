@@ -1,5 +1,9 @@
+pub mod Carried
+pub mod CountsGrowth
 pub mod Entries
-pub mod Scanning
+pub mod Objects
+pub mod Rises
+pub mod RulesKept
 pub mod SoundGrowth
 pub mod StateKept
 pub mod TotalsGrowth

@@ -1,12 +1,13 @@
 -- An adapter stays sound behind one more entry.
-use Rattle.std.proofs.Common.{◌≡◌, ℕ, ◌<◌, ◌≤◌, ◌^◌, List, [], ◌∷◌, ◌++◌, length, refl, sym, ap, ◌∙◌, append_assoc, append-nil, subst, arith, length-append}
-use Rattle.std.proofs.lemmas.List.Sums.{fold-append}
+use Rattle.std.proofs.Common.{◌≡◌, ℕ, ◌+◌, ◌*◌, Bool, true, false, map, flat_map, count_by, ◌<◌, ◌≤◌, ◌^◌, List, [], ◌∷◌, ◌++◌, length, refl, sym, ap, ◌∙◌, append_assoc, append-nil, subst, arith, length-append}
+use Rattle.std.proofs.lemmas.List.Sums.{fold-append, count_by-le-length}
+use Rattle.std.proofs.lemmas.Nat.{mul-le}
 use Rattle.packet_headers.specs.declared.items.LayerAt.{LayerAt}
 use Rattle.flow_actions.specs.declared.verdict.Verdict.{Verdict}
 use Rattle.flow_actions.specs.declared.verdict.Fate.{Fate}
 use Rattle.flow_actions.specs.declared.verdict.Fate.TheVariants as fates
 use Rattle.flow_rules.specs.declared.limits.Limits.{Limits}
-use Rattle.flow_rules.specs.Walk.{verdict_of}
+use Rattle.flow_rules.specs.Walk.{verdict_of, counters_of}
 use Rattle.adapter.specs.declared.caller.Caller.{Caller}
 use Rattle.adapter.specs.declared.call.Call.{Call}
 use Rattle.adapter.specs.declared.call.Op.{Op}
@@ -14,9 +15,20 @@ use Rattle.adapter.specs.declared.parcel.Parcel.{Parcel}
 use Rattle.adapter.specs.declared.reply.Totals.{Totals}
 use Rattle.adapter.specs.declared.entry.Entry.{Entry}
 use Rattle.adapter.specs.declared.entry.Entry.TheVariants.{Asked, Passed}
-use Rattle.adapter.specs.State.{State, state_of, state_behind, opening, flows_of, next_state}
+use Rattle.adapter.specs.State.{State, state_of, state_behind, opening, flows_of, rule_in, next_state}
+use Rattle.adapter.specs.declared.call.Op.TheVariants as ops
+use Rattle.flow_rules.specs.declared.counter.Counter.{Counter}
+use Rattle.flow_rules.specs.declared.counter.Counter.TheVariants as counters
+use Rattle.flow_rules.specs.declared.counter.Count.{Count}
+use Rattle.flow_rules.specs.Naming.{rule_at, namings_at, HaveOwnIds}
+use Rattle.flow_rules.specs.Shared.{shared_at}
+use Rattle.flow_rules.proofs.Namings.{named-by_path}
+use Rattle.adapter.specs.Counters.{zero_count, counted_more, is_counter, is_there, while_there, count_of}
+use Rattle.adapter.specs.Raising.{HasRoomFor}
+use Rattle.adapter.specs.Totals.{totals_of}
 use Rattle.adapter.specs.Standing.{Standing, standing_of}
-use Rattle.adapter.specs.Reply.{answer_of, reply_to}
+use Rattle.adapter.specs.Reply.{answer_of, reply_to, reply_to_query, reply_to_shared_query}
+use Rattle.adapter.proofs.CountsGrowth.{count_of-push, count_of-nil}
 use Rattle.flow_rules.specs.OnPort.{IsBelow}
 use Rattle.adapter.specs.Counted.{counted, HasRoom}
 use Rattle.adapter.specs.History.{IsLegalBehind, IsRight}
@@ -44,41 +56,80 @@ reply_to-is : (limits : Limits) (h : List Entry) (op : Op) → reply_to limits h
 unfolding reply_to
 reply_to-is limits h op = refl
 
-abbrev pub standing : State → Totals → Standing
-standing s totals = record { state = s; totals = totals }
+-- no frame passed
+abbrev pub no_totals : Totals
+no_totals = record { received = 0; dropped = 0; queues = 0 ∷ 0 ∷ 0 ∷ 0 ∷ 0 ∷ 0 ∷ 0 ∷ 0 ∷ 0 ∷ 0 ∷ 0 ∷ 0 ∷ 0 ∷ 0 ∷ 0 ∷ 0 ∷ [] }
 
 -- an adapter without rules and entries
-pub Sound-nil : (limits : Limits) (s : State) → s ≡ opening limits → AreLimits limits
-    → Sound limits (standing s (record { received = 0; dropped = 0; queues = 0 ∷ 0 ∷ 0 ∷ 0 ∷ 0 ∷ 0 ∷ 0 ∷ 0 ∷ 0 ∷ 0 ∷ 0 ∷ 0 ∷ 0 ∷ 0 ∷ 0 ∷ 0 ∷ [] })) []
-Sound-nil limits s is ranges = record {
+pub Sound-nil : (limits : Limits) (at : Standing) → at.state ≡ opening limits → at.totals ≡ no_totals → ((c : Counter) → at.count c ≡ zero_count) → AreLimits limits
+    → Sound limits at []
+Sound-nil limits at state totals counts ranges = record {
   ranges = ranges;
-  current = ap (λ t. standing t (record { received = 0; dropped = 0; queues = 0 ∷ 0 ∷ 0 ∷ 0 ∷ 0 ∷ 0 ∷ 0 ∷ 0 ∷ 0 ∷ 0 ∷ 0 ∷ 0 ∷ 0 ∷ 0 ∷ 0 ∷ 0 ∷ [] })) (is ∙ sym (state_of-nil limits))
-      ∙ ap (λ t. standing (state_of limits []) t) (sym totals_of-nil);
+  state = state ∙ sym (state_of-nil limits);
+  totals = totals ∙ sym totals_of-nil;
+  counts = λ c. counts c ∙ sym (count_of-nil limits c);
+  few = λ c. omega (arith, ap (λ (n : Count). n.hits) (counts c), ap (λ (n : Count). n.bytes) (counts c));
   legal = tt;
   short = omega arith;
 }
 
 -- the state of an adapter is under its limits
 pub IsUnder-sound : (limits : Limits) (at : Standing) (h : List Entry) → Sound limits at h → IsUnder limits at.state
-IsUnder-sound limits at h sound = subst (λ (s : Standing). IsUnder limits s.state) (sym sound.current) (IsUnder-state_of limits h)
+IsUnder-sound limits at h sound = subst (IsUnder limits) (sym sound.state) (IsUnder-state_of limits h)
+
+-- replies depend on what each counter stands at alone
+pub answer-counts : (limits : Limits) (s : State) (t : Totals) (f g : Counter → Count) → ((c : Counter) → f c ≡ g c) → (op : Op)
+    → answer_of limits (record { state = s; totals = t; count = f }) op ≡ answer_of limits (record { state = s; totals = t; count = g }) op
+answer-counts limits s t f g same (ops.Validate spec) = refl
+answer-counts limits s t f g same (ops.Create spec) = refl
+answer-counts limits s t f g same (ops.Destroy id) = refl
+answer-counts limits s t f g same ops.Flush = refl
+answer-counts limits s t f g same (ops.Query id) = ap (reply_to_query (rule_at id (map rule_in s.rules))) (same (counters.Rule id))
+answer-counts limits s t f g same ops.List = refl
+answer-counts limits s t f g same (ops.Isolate on) = refl
+answer-counts limits s t f g same (ops.IndirectCreate id attr action) = refl
+answer-counts limits s t f g same (ops.IndirectUpdate id action) = refl
+answer-counts limits s t f g same (ops.IndirectDestroy id) = refl
+answer-counts limits s t f g same (ops.IndirectQuery id) = ap (reply_to_shared_query (shared_at id s.shared)) (same (counters.Shared id))
+answer-counts limits s t f g same (ops.Start _) = refl
+answer-counts limits s t f g same ops.Stop = refl
+answer-counts limits s t f g same ops.Quit = refl
+answer-counts limits s t f g same (ops.Bad _) = refl
 
 -- the reply of the standing is that behind the history
 pub reply-sound : (limits : Limits) (at : Standing) (h : List Entry) (op : Op) → Sound limits at h → answer_of limits at op ≡ reply_to limits h op
-reply-sound limits at h op sound = ap (λ s. answer_of limits s op) sound.current ∙ sym (reply_to-is limits h op)
+reply-sound limits at h op sound =
+    let told : State → Totals → Standing = λ s t. record { state = s; totals = t; count = at.count } in
+    ap (λ s. answer_of limits (told s at.totals) op) sound.state
+    ∙ ap (λ t. answer_of limits (told (state_of limits h) t) op) sound.totals
+    ∙ answer-counts limits (state_of limits h) (totals_of h) at.count (count_of limits h) sound.counts op
+    ∙ sym (reply_to-is limits h op)
+
+while_there-few : (b : Bool) (n : Count) (k : ℕ) → (n.hits ≤ 256 * k) × (n.bytes ≤ 2 ^ 32 * n.hits)
+    → ((while_there b n).hits ≤ 256 * (k + 1)) × ((while_there b n).bytes ≤ 2 ^ 32 * (while_there b n).hits)
+while_there-few true n k few = (omega (arith, few.0), few.1)
+while_there-few false n k few = (omega arith, omega arith)
 
 -- behind a call that was answered and carried out
-pub Sound-asked : (limits : Limits) (at : Standing) (s : State) (h : List Entry) (caller : Caller) (call : Call)
-    → Sound limits at h → length h < 2 ^ 32 → s ≡ next_state limits at.state call.op
-    → Sound limits (standing s at.totals) (h ++ Asked caller call (answer_of limits at call.op) ∷ [])
-Sound-asked limits at s h caller call sound more is =
-    let reply = answer_of limits at call.op in
-    let before : at.state ≡ state_of limits h = ap (λ t. t.state) sound.current in
+pub Sound-asked : (limits : Limits) (at at' : Standing) (h : List Entry) (caller : Caller) (call : Call)
+    → Sound limits at h → length h < 2 ^ 32 → at'.state ≡ next_state limits at.state call.op → at'.totals ≡ at.totals
+    → ((c : Counter) → at'.count c ≡ while_there (is_there c (flows_of at'.state)) (at.count c))
+    → Sound limits at' (h ++ Asked caller call (answer_of limits at call.op) ∷ [])
+Sound-asked limits at at' h caller call sound more is totals counts =
+    let e : Entry = Asked caller call (answer_of limits at call.op) in
+    let behind : at'.state ≡ state_behind limits (state_of limits h) e = is ∙ ap (λ s. next_state limits s call.op) sound.state in
     record {
       ranges = sound.ranges;
-      current = ap (λ t. standing t at.totals) (is ∙ ap (λ t. next_state limits t call.op) before ∙ sym (state_of-push limits h (Asked caller call reply)))
-          ∙ ap (λ t. standing (state_of limits (h ++ Asked caller call reply ∷ [])) t) (ap (λ t. t.totals) sound.current ∙ totals_of-asked h caller call reply);
-      legal = IsLegalBehind-push limits [] h (Asked caller call reply) sound.legal (reply-sound limits at h call.op sound);
-      short = omega (arith, length-append h (Asked caller call reply ∷ []));
+      state = behind ∙ sym (state_of-push limits h e);
+      totals = totals ∙ sound.totals ∙ totals_of-asked h caller call (answer_of limits at call.op);
+      counts = λ c. counts c ∙ ap (λ (s : State). while_there (is_there c (flows_of s)) (at.count c)) behind
+          ∙ ap (while_there (is_there c (flows_of (state_behind limits (state_of limits h) e)))) (sound.counts c) ∙ sym (count_of-push limits h e c);
+      few = λ c. subst (λ (n : Count). (n.hits ≤ 256 * length (h ++ e ∷ [])) × (n.bytes ≤ 2 ^ 32 * n.hits)) (sym (counts c))
+          (subst (λ k. ((while_there (is_there c (flows_of at'.state)) (at.count c)).hits ≤ 256 * k)
+          × ((while_there (is_there c (flows_of at'.state)) (at.count c)).bytes ≤ 2 ^ 32 * (while_there (is_there c (flows_of at'.state)) (at.count c)).hits)) (sym (length-append h (e ∷ [])))
+          (while_there-few (is_there c (flows_of at'.state)) (at.count c) (length h) (sound.few c)));
+      legal = IsLegalBehind-push limits [] h e sound.legal (reply-sound limits at h call.op sound);
+      short = omega (arith, length-append h (e ∷ []));
     }
 
 IsBelow-more : (n : ℕ) (fate : Fate) → n ≤ 16 → IsBelow n fate → IsBelow 16 fate
@@ -91,22 +142,46 @@ pub IsBelow-verdict : (limits : Limits) (h : List Entry) (layers : List LayerAt)
 IsBelow-verdict limits h layers v ranges is =
     subst (λ (w : Verdict). IsBelow 16 w.fate) (sym is)
     (IsBelow-more limits.rxq (verdict_of (flows_of (state_of limits h)) layers).fate ranges.queues
-    (verdict-below limits.rxq ranges.some_queue (flows_of (state_of limits h)) (IsUnder-state_of limits h).port layers (IsUnder-state_of limits h).queues))
+    (verdict-below limits.rxq ranges.some_queue (flows_of (state_of limits h)) (IsUnder-state_of limits h).port layers (IsUnder-state_of limits h).queues (IsUnder-state_of limits h).shared))
 
 -- the totals can rise
 pub HasRoom-totals : (limits : Limits) (at : Standing) (h : List Entry) → Sound limits at h → HasRoom at.totals
-HasRoom-totals limits at h sound = subst (λ (s : Standing). HasRoom s.totals) (sym sound.current) (totals_of-room h sound.short)
+HasRoom-totals limits at h sound = subst HasRoom (sym sound.totals) (totals_of-room h sound.short)
+
+-- and so can each counter
+pub HasRoomFor-counts : (limits : Limits) (at : Standing) (h : List Entry) → Sound limits at h → (c : Counter) → HasRoomFor 256 (at.count c)
+HasRoomFor-counts limits at h sound c = (omega (arith, (sound.few c).0, sound.short), omega (arith, (sound.few c).0, (sound.few c).1, sound.short))
+
+few-more : (n : Count) (k len l l' : ℕ) → l' ≡ l + 1 → len < 2 ^ 32 → k ≤ 256 → (n.hits ≤ 256 * l) × (n.bytes ≤ 2 ^ 32 * n.hits)
+    → ((counted_more n k len).hits ≤ 256 * l') × ((counted_more n k len).bytes ≤ 2 ^ 32 * (counted_more n k len).hits)
+few-more n k len l l' longer short most few = (omega (arith, longer, most, few.0), product (mul-le k len k (2 ^ 32) (omega arith) (omega (arith, short)))) where
+  product : k * len ≤ k * 2 ^ 32 → n.bytes + k * len ≤ 2 ^ 32 * (n.hits + k)
+  product more = omega (arith, more, few.1)
 
 -- behind a frame that was entered and counted
-pub Sound-passed : (limits : Limits) (at : Standing) (totals : Totals) (h : List Entry) (caller : Caller) (parcel : Parcel) (v : Verdict)
-    → Sound limits at h → length h < 2 ^ 32
-    → v ≡ verdict_of (flows_of (state_of limits h)) parcel.key → totals ≡ counted at.totals v.fate
-    → Sound limits (standing at.state totals) (h ++ Passed caller parcel v ∷ [])
-Sound-passed limits at totals h caller parcel v sound more is count = record {
-  ranges = sound.ranges;
-  current = ap (λ t. standing t totals) (ap (λ t. t.state) sound.current ∙ sym (state_of-push limits h (Passed caller parcel v)))
-      ∙ ap (λ t. standing (state_of limits (h ++ Passed caller parcel v ∷ [])) t)
-      (count ∙ ap (λ (t : Standing). counted t.totals v.fate) sound.current ∙ totals_of-passed h caller parcel v (IsBelow-verdict limits h parcel.key v sound.ranges is));
-  legal = IsLegalBehind-push limits [] h (Passed caller parcel v) sound.legal is;
-  short = omega (arith, length-append h (Passed caller parcel v ∷ []));
-}
+pub Sound-passed : (limits : Limits) (at at' : Standing) (h : List Entry) (caller : Caller) (parcel : Parcel) (v : Verdict)
+    → Sound limits at h → length h < 2 ^ 32 → parcel.len < 2 ^ 32 → HaveOwnIds (map rule_in at.state.rules)
+    → v ≡ verdict_of (flows_of (state_of limits h)) parcel.key → at'.state ≡ at.state → at'.totals ≡ counted at.totals v.fate
+    → ((c : Counter) → at'.count c ≡ counted_more (at.count c) (count_by (is_counter c) (flat_map (namings_at (flows_of at.state)) v.path.items)) parcel.len)
+    → length (flat_map (namings_at (flows_of at.state)) v.path.items) ≤ 256
+    → Sound limits at' (h ++ Passed caller parcel v ∷ [])
+Sound-passed limits at at' h caller parcel v sound more len own is state count counts few =
+    let e : Entry = Passed caller parcel v in
+    let names = flat_map (namings_at (flows_of at.state)) v.path.items in
+    let at_state : v ≡ verdict_of (flows_of at.state) parcel.key = is ∙ ap (λ (s : State). verdict_of (flows_of s) parcel.key) (sym sound.state) in
+    let named : names ≡ counters_of (flows_of at.state) parcel.key
+    = ap (λ (w : Verdict). flat_map (namings_at (flows_of at.state)) w.path.items) at_state ∙ sym (named-by_path (flows_of at.state) parcel.key own) in
+    record {
+      ranges = sound.ranges;
+      state = state ∙ sound.state ∙ sym (state_of-push limits h e);
+      totals = count ∙ ap (λ t. counted t v.fate) sound.totals ∙ totals_of-passed h caller parcel v (IsBelow-verdict limits h parcel.key v sound.ranges is);
+      counts = λ c. counts c
+          ∙ ap (λ ns. counted_more (at.count c) (count_by (is_counter c) ns) parcel.len) (named ∙ ap (λ (s : State). counters_of (flows_of s) parcel.key) sound.state)
+          ∙ ap (λ n. counted_more n (count_by (is_counter c) (counters_of (flows_of (state_of limits h)) parcel.key)) parcel.len) (sound.counts c)
+          ∙ sym (count_of-push limits h e c);
+      few = λ c. subst (λ (n : Count). (n.hits ≤ 256 * length (h ++ e ∷ [])) × (n.bytes ≤ 2 ^ 32 * n.hits)) (sym (counts c))
+          (few-more (at.count c) (count_by (is_counter c) names) parcel.len (length h) (length (h ++ e ∷ [])) (length-append h (e ∷ [])) len
+          (omega (arith, count_by-le-length (is_counter c) names, few)) (sound.few c));
+      legal = IsLegalBehind-push limits [] h e sound.legal is;
+      short = omega (arith, length-append h (e ∷ []));
+    }

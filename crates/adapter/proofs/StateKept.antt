@@ -1,15 +1,23 @@
 -- What packets see behind each call, and what a state keeps under its limits.
-use Rattle.std.proofs.Common.{◌≡◌, ℕ, ◌-◌, ◌<◌, ◌^◌, Bool, true, false, cond, not, List, [], ◌∷◌, map, filter, fold, refl, sym, ap, subst, arith, Option, None, Some, nat_le}
+use Rattle.std.proofs.Common.{◌≡◌, ℕ, ◌-◌, ◌<◌, ◌^◌, Bool, true, false, cond, not, List, [], ◌∷◌, ◌++◌, ◌+◌, is_some, nat_eq, map, filter, fold, refl, sym, ap, subst, arith, Option, None, Some, nat_le}
 use Rattle.std.specs.List.{All, count_by}
+use Rattle.std.specs.Map.{set_value}
 use Rattle.std.proofs.lemmas.List.{map-append}
-use Rattle.std.proofs.lemmas.List.Elements.{All-append, All-cons, All-nil, All-filter}
-use Rattle.std.proofs.lemmas.Bool.{leb-false}
+use Rattle.std.proofs.lemmas.List.Elements.{All-append, All-cons, All-nil, All-filter, All-head, All-tail}
+use Rattle.std.proofs.lemmas.Bool.{leb-false, eqb-true}
+use Rattle.flow_rules.specs.Naming.{rule_at}
+use Rattle.adapter.specs.Effect.{HaveFreshIds}
 use Rattle.flow_rules.specs.declared.limits.Limits.{Limits}
 use Rattle.flow_rules.specs.declared.spec.RuleSpec.{RuleSpec}
 use Rattle.flow_rules.specs.declared.fault.Fault.{Fault}
 use Rattle.flow_rules.specs.declared.fault.Cause.TheVariants as causes
 use Rattle.flow_rules.specs.declared.change.Change.TheVariants as changes
+use Rattle.flow_actions.specs.declared.action.Action.{Action}
 use Rattle.flow_rules.specs.RuleView.{RuleView}
+use Rattle.flow_rules.specs.Shared.{Shared, shared_at, with_shared, without_shared, IsSharedOn, AreSharedOn}
+use Rattle.object_ids.specs.Ids.{id_for}
+use Rattle.indirect_counters.specs.Refusals as shared_calls
+use Rattle.indirect_counters.proofs.Creating.{IsSharedOn-created, IsSharedOn-updated}
 use Rattle.flow_rules.specs.OnPort.{IsFor}
 use Rattle.flow_rules.specs.Faults.{first_fault, rule_of}
 use Rattle.flow_rules.specs.Changes.{has_id, changed}
@@ -18,12 +26,11 @@ use Rattle.adapter.specs.declared.call.Op.{Op}
 use Rattle.adapter.specs.declared.call.Op.TheVariants as ops
 use Rattle.adapter.specs.declared.entry.Entry.{Entry}
 use Rattle.adapter.specs.declared.entry.Entry.TheVariants.{Asked, Passed}
-use Rattle.adapter.specs.declared.in_effect.InEffect.{InEffect}
-use Rattle.adapter.specs.State.{State, state_of, state_behind, opening, flows_of, rule_in, kinds_in, created, destroyed, is_in_effect, create_fault, room_fault, first_of, plain, is_plain, unless_refused, next_state}
+use Rattle.adapter.specs.State.{State, Placed, objects, shared_set, shared_gone, state_of, state_behind, opening, flows_of, rule_in, kinds_in, created, destroyed, is_in_effect, create_fault, room_fault, first_of, plain, is_plain, unless_refused, next_state}
 use Rattle.adapter.specs.Changes.{change_unless_refused, AreItsChanges}
 
 -- without a rule, by its own id or by that of what is in effect
-map-without : (id : ℕ) (rules : List InEffect) → map rule_in (filter (λ r. not (has_id id r.rule)) rules) ≡ filter (λ (rule : RuleView). not (has_id id rule)) (map rule_in rules)
+map-without : (id : ℕ) (rules : List Placed) → map rule_in (filter (λ r. not (has_id id r.rule)) rules) ≡ filter (λ (rule : RuleView). not (has_id id rule)) (map rule_in rules)
 map-without id [] = refl
 map-without id (r ∷ rules) = by (has_id id r.rule) (map-without id rules) where
   by : (b : Bool) → map rule_in (filter (λ x. not (has_id id x.rule)) rules) ≡ filter (λ (rule : RuleView). not (has_id id rule)) (map rule_in rules)
@@ -34,31 +41,53 @@ map-without id (r ∷ rules) = by (has_id id r.rule) (map-without id rules) wher
 
 changes-created : (s : State) (rule : RuleView) (fault : Option Fault)
     → flows_of (unless_refused fault (created rule s) s) ≡ fold changed (flows_of s) (change_unless_refused fault (changes.Added rule))
-changes-created s rule None = ap (λ rules. record { rules = rules; isolated = s.isolated; rxq = s.rxq }) (map-append rule_in s.rules (record { rule = rule; table = None } ∷ []))
+changes-created s rule None = ap (λ rules. record { rules = rules; shared = s.shared; isolated = s.isolated; rxq = s.rxq }) (map-append rule_in s.rules (record { rule = rule; table = None } ∷ []))
 changes-created s rule (Some fault) = refl
 
 changes-destroyed : (s : State) (id : ℕ) (there : Bool)
     → flows_of (cond there (destroyed id s) s) ≡ fold changed (flows_of s) (cond there (changes.Removed id ∷ []) [])
-changes-destroyed s id true = ap (λ rules. record { rules = rules; isolated = s.isolated; rxq = s.rxq }) (map-without id s.rules)
+changes-destroyed s id true = ap (λ rules. record { rules = rules; shared = s.shared; isolated = s.isolated; rxq = s.rxq }) (map-without id s.rules)
 changes-destroyed s id false = refl
+
+changes-shared_set : (s : State) (id : ℕ) (value : Action) (fault : Option Fault)
+    → flows_of (unless_refused fault (shared_set id value s) s) ≡ fold changed (flows_of s) (change_unless_refused fault (changes.IndirectSet id value))
+changes-shared_set s id value None = refl
+changes-shared_set s id value (Some fault) = refl
+
+changes-shared_gone : (s : State) (id : ℕ) (fault : Option Fault)
+    → flows_of (unless_refused fault (shared_gone id s) s) ≡ fold changed (flows_of s) (change_unless_refused fault (changes.IndirectGone id))
+changes-shared_gone s id None = refl
+changes-shared_gone s id (Some fault) = refl
 
 pub are_its_changes : (limits : Limits) (s : State) (op : Op) → AreItsChanges limits s op
 are_its_changes limits s (ops.Validate spec) = refl
 are_its_changes limits s (ops.Create spec) = changes-created s (rule_of s.ids spec) (create_fault limits s spec)
 are_its_changes limits s (ops.Destroy id) = changes-destroyed s id (is_in_effect id s)
 are_its_changes limits s ops.Flush = refl
+are_its_changes limits s (ops.Query id) = refl
 are_its_changes limits s ops.List = refl
 are_its_changes limits s (ops.Isolate on) = refl
+are_its_changes limits s (ops.IndirectCreate id attr action) =
+    changes-shared_set s (id_for id (objects s)) action (shared_calls.create_fault s.rxq (objects s) id attr action)
+are_its_changes limits s (ops.IndirectUpdate id action) = changes-shared_set s id action (shared_calls.update_fault s.rxq (objects s) id action)
+are_its_changes limits s (ops.IndirectDestroy id) = changes-shared_gone s id (shared_calls.destroy_fault (objects s) id)
+are_its_changes limits s (ops.IndirectQuery id) = refl
 are_its_changes limits s (ops.Start _) = refl
 are_its_changes limits s ops.Stop = refl
 are_its_changes limits s ops.Quit = refl
 are_its_changes limits s (ops.Bad _) = refl
+
+-- a rule's id was given before
+abbrev IsBelowId : ℕ → RuleView → Type 0
+IsBelowId ids rule = rule.id < ids
 
 -- what a state keeps under its limits
 pub record IsUnder (limits : Limits) (s : State) : Type 0 where
   pub numbers : s.ids < 2 ^ 32
   pub port : s.rxq ≡ limits.rxq
   pub queues : All (IsFor limits.rxq) (map rule_in s.rules)
+  pub below : All (IsBelowId s.ids) (map rule_in s.rules)
+  pub shared : AreSharedOn limits.rxq s.shared
 
 first_of-none : (a b : Option Fault) → first_of a b ≡ None → (a ≡ None) × (b ≡ None)
 first_of-none None b e = (refl, e)
@@ -73,6 +102,11 @@ room-none limits s = by (nat_le limits.flow_max (count_by is_plain s.rules)) (na
   by false true t e = cc
   by false false t e = leb-false (2 ^ 32 - 1) s.ids t
 
+All-below : (ids : ℕ) (rules : List RuleView) → All (IsBelowId ids) rules → All (IsBelowId (ids + 1)) rules
+All-below ids [] all = All-nil (IsBelowId (ids + 1))
+All-below ids (rule ∷ rules) all =
+    All-cons (IsBelowId (ids + 1)) rule rules (omega (arith, All-head (IsBelowId ids) rule rules all)) (All-below ids rules (All-tail (IsBelowId ids) rule rules all))
+
 IsUnder-created : (limits : Limits) (s : State) (spec : RuleSpec) (fault : Option Fault) → create_fault limits s spec ≡ fault → IsUnder limits s
     → IsUnder limits (unless_refused fault (created (rule_of s.ids spec) s) s)
 IsUnder-created limits s spec (Some fault) is v = v
@@ -86,6 +120,10 @@ IsUnder-created limits s spec None is v =
       queues = subst (All (IsFor limits.rxq)) (sym (map-append rule_in s.rules (record { rule = rule; table = None } ∷ [])))
           (All-append (IsFor limits.rxq) (map rule_in s.rules) (rule ∷ []) v.queues
           (All-cons (IsFor limits.rxq) rule [] (on_port-clear limits (kinds_in s) spec parts.0) (All-nil (IsFor limits.rxq))));
+      below = subst (All (IsBelowId (s.ids + 1))) (sym (map-append rule_in s.rules (record { rule = rule; table = None } ∷ [])))
+          (All-append (IsBelowId (s.ids + 1)) (map rule_in s.rules) (rule ∷ []) (All-below s.ids (map rule_in s.rules) v.below)
+          (All-cons (IsBelowId (s.ids + 1)) rule [] (omega arith) (All-nil (IsBelowId (s.ids + 1)))));
+      shared = v.shared;
     }
 
 IsUnder-destroyed : (limits : Limits) (s : State) (id : ℕ) (there : Bool) → IsUnder limits s → IsUnder limits (cond there (destroyed id s) s)
@@ -93,16 +131,68 @@ IsUnder-destroyed limits s id true v = record {
   numbers = v.numbers;
   port = v.port;
   queues = subst (All (IsFor limits.rxq)) (sym (map-without id s.rules)) (All-filter (λ (rule : RuleView). not (has_id id rule)) (IsFor limits.rxq) (map rule_in s.rules) v.queues);
+  below = subst (All (IsBelowId s.ids)) (sym (map-without id s.rules)) (All-filter (λ (rule : RuleView). not (has_id id rule)) (IsBelowId s.ids) (map rule_in s.rules) v.below);
+  shared = v.shared;
 }
 IsUnder-destroyed limits s id false v = v
+
+-- a value is put in, or taken out
+All-set_value : (rxq id : ℕ) (value : Action) (shared : Shared) → IsSharedOn rxq value → AreSharedOn rxq shared → AreSharedOn rxq (set_value (nat_eq id) shared value)
+All-set_value rxq id value [] on all = all
+All-set_value rxq id value (entry ∷ shared) on all =
+    by (nat_eq id entry.0) (All-set_value rxq id value shared on (All-tail (λ (e : ℕ × Action). IsSharedOn rxq e.1) entry shared all)) where
+      by : (b : Bool) → AreSharedOn rxq (set_value (nat_eq id) shared value)
+          → AreSharedOn rxq (cond b ((entry.0, value) ∷ shared) (entry ∷ set_value (nat_eq id) shared value))
+      by true behind = All-cons (λ (e : ℕ × Action). IsSharedOn rxq e.1) (entry.0, value) shared on (All-tail (λ (e : ℕ × Action). IsSharedOn rxq e.1) entry shared all)
+      by false behind = All-cons (λ (e : ℕ × Action). IsSharedOn rxq e.1) entry (set_value (nat_eq id) shared value)
+          (All-head (λ (e : ℕ × Action). IsSharedOn rxq e.1) entry shared all) behind
+
+All-removed : (rxq id : ℕ) (shared : Shared) → AreSharedOn rxq shared → AreSharedOn rxq (without_shared id shared)
+All-removed rxq id [] all = all
+All-removed rxq id (entry ∷ shared) all =
+    by (nat_eq id entry.0) (All-removed rxq id shared (All-tail (λ (e : ℕ × Action). IsSharedOn rxq e.1) entry shared all)) where
+      by : (b : Bool) → AreSharedOn rxq (without_shared id shared) → AreSharedOn rxq (cond b shared (entry ∷ without_shared id shared))
+      by true behind = All-tail (λ (e : ℕ × Action). IsSharedOn rxq e.1) entry shared all
+      by false behind = All-cons (λ (e : ℕ × Action). IsSharedOn rxq e.1) entry (without_shared id shared) (All-head (λ (e : ℕ × Action). IsSharedOn rxq e.1) entry shared all) behind
+
+AreSharedOn-with : (rxq id : ℕ) (value : Action) (shared : Shared) → IsSharedOn rxq value → AreSharedOn rxq shared → AreSharedOn rxq (with_shared id value shared)
+AreSharedOn-with rxq id value shared on all = by (is_some (shared_at id shared)) where
+  by : (b : Bool) → AreSharedOn rxq (cond b (set_value (nat_eq id) shared value) (shared ++ (id, value) ∷ []))
+  by true = All-set_value rxq id value shared on all
+  by false = All-append (λ (entry : ℕ × Action). IsSharedOn rxq entry.1) shared ((id, value) ∷ []) all
+      (All-cons (λ (entry : ℕ × Action). IsSharedOn rxq entry.1) (id, value) [] on (All-nil (λ (entry : ℕ × Action). IsSharedOn rxq entry.1)))
+
+IsUnder-shared_set : (limits : Limits) (s : State) (id : ℕ) (value : Action) (fault : Option Fault) → (fault ≡ None → IsSharedOn s.rxq value) → IsUnder limits s
+    → IsUnder limits (unless_refused fault (shared_set id value s) s)
+IsUnder-shared_set limits s id value (Some fault) lawful v = v
+IsUnder-shared_set limits s id value None lawful v = record {
+  numbers = v.numbers;
+  port = v.port;
+  queues = v.queues;
+  below = v.below;
+  shared = AreSharedOn-with limits.rxq id value s.shared (subst (λ n. IsSharedOn n value) v.port (lawful refl)) v.shared;
+}
+
+IsUnder-shared_gone : (limits : Limits) (s : State) (id : ℕ) (fault : Option Fault) → IsUnder limits s → IsUnder limits (unless_refused fault (shared_gone id s) s)
+IsUnder-shared_gone limits s id (Some fault) v = v
+IsUnder-shared_gone limits s id None v = record { numbers = v.numbers; port = v.port; queues = v.queues; below = v.below; shared = All-removed limits.rxq id s.shared v.shared }
 
 pub IsUnder-next : (limits : Limits) (s : State) (op : Op) → IsUnder limits s → IsUnder limits (next_state limits s op)
 IsUnder-next limits s (ops.Validate spec) v = v
 IsUnder-next limits s (ops.Create spec) v = IsUnder-created limits s spec (create_fault limits s spec) refl v
 IsUnder-next limits s (ops.Destroy id) v = IsUnder-destroyed limits s id (is_in_effect id s) v
-IsUnder-next limits s ops.Flush v = record { numbers = v.numbers; port = v.port; queues = All-nil (IsFor limits.rxq) }
+IsUnder-next limits s ops.Flush v =
+    record { numbers = v.numbers; port = v.port; queues = All-nil (IsFor limits.rxq); below = All-nil (IsBelowId s.ids); shared = v.shared }
+IsUnder-next limits s (ops.Query id) v = v
 IsUnder-next limits s ops.List v = v
-IsUnder-next limits s (ops.Isolate on) v = record { numbers = v.numbers; port = v.port; queues = v.queues }
+IsUnder-next limits s (ops.Isolate on) v = record { numbers = v.numbers; port = v.port; queues = v.queues; below = v.below; shared = v.shared }
+IsUnder-next limits s (ops.IndirectCreate id attr action) v =
+    IsUnder-shared_set limits s (id_for id (objects s)) action (shared_calls.create_fault s.rxq (objects s) id attr action)
+    (λ none. IsSharedOn-created s.rxq (objects s) id attr action none) v
+IsUnder-next limits s (ops.IndirectUpdate id action) v =
+    IsUnder-shared_set limits s id action (shared_calls.update_fault s.rxq (objects s) id action) (λ none. IsSharedOn-updated s.rxq (objects s) id action none) v
+IsUnder-next limits s (ops.IndirectDestroy id) v = IsUnder-shared_gone limits s id (shared_calls.destroy_fault (objects s) id) v
+IsUnder-next limits s (ops.IndirectQuery id) v = v
 IsUnder-next limits s (ops.Start _) v = v
 IsUnder-next limits s ops.Stop v = v
 IsUnder-next limits s ops.Quit v = v
@@ -119,4 +209,16 @@ IsUnder-fold limits s (e ∷ h) v = IsUnder-fold limits (state_behind limits s e
 -- the state behind any history
 pub IsUnder-state_of : (limits : Limits) (h : List Entry) → IsUnder limits (state_of limits h)
 unfolding state_of
-IsUnder-state_of limits h = IsUnder-fold limits (opening limits) h (record { numbers = omega arith; port = refl; queues = All-nil (IsFor limits.rxq) })
+IsUnder-state_of limits h = IsUnder-fold limits (opening limits) h
+    (record { numbers = omega arith; port = refl; queues = All-nil (IsFor limits.rxq); below = All-nil (IsBelowId 0); shared = All-nil (λ (entry : ℕ × Action). IsSharedOn limits.rxq entry.1) })
+
+-- the id that is given next is that of no rule
+rule_at-above : (id : ℕ) (rules : List RuleView) → All (IsBelowId id) rules → rule_at id rules ≡ None
+rule_at-above id [] all = refl
+rule_at-above id (rule ∷ rules) all = by (nat_eq rule.id id) refl (rule_at-above id rules (All-tail (IsBelowId id) rule rules all)) where
+  by : (b : Bool) → nat_eq rule.id id ≡ b → rule_at id rules ≡ None → cond b (Some rule) (rule_at id rules) ≡ None
+  by true same behind = absurd (omega (arith, eqb-true rule.id id same, All-head (IsBelowId id) rule rules all))
+  by false other behind = behind
+
+pub IsFresh-under : (limits : Limits) (s : State) → IsUnder limits s → HaveFreshIds s
+IsFresh-under limits s under = rule_at-above s.ids (map rule_in s.rules) under.below

@@ -8,7 +8,9 @@ use Rattle.flow_rules.specs.Faults.{rule_of}
 use Rattle.flow_rules.specs.Changes.{changed}
 use Rattle.adapter.specs.declared.call.Op.{Op}
 use Rattle.adapter.specs.declared.call.Op.TheVariants as ops
-use Rattle.adapter.specs.State.{State, flows_of, create_fault, is_in_effect, next_state}
+use Rattle.object_ids.specs.Ids.{id_for}
+use Rattle.indirect_counters.specs.Refusals as shared_calls
+use Rattle.adapter.specs.State.{State, flows_of, objects, create_fault, is_in_effect, next_state}
 
 abbrev pub change_unless_refused : Option Fault → Change → List Change
 change_unless_refused None change = change ∷ []
@@ -20,8 +22,14 @@ changes_by limits s (ops.Validate spec) = []
 changes_by limits s (ops.Create spec) = change_unless_refused (create_fault limits s spec) (changes.Added (rule_of s.ids spec))
 changes_by limits s (ops.Destroy id) = if is_in_effect id s then changes.Removed id ∷ [] else []
 changes_by limits s ops.Flush = changes.Flushed ∷ []
+changes_by limits s (ops.Query id) = []
 changes_by limits s ops.List = []
 changes_by limits s (ops.Isolate on) = changes.Isolated on ∷ []
+changes_by limits s (ops.IndirectCreate id attr action) =
+    change_unless_refused (shared_calls.create_fault s.rxq (objects s) id attr action) (changes.IndirectSet (id_for id (objects s)) action)
+changes_by limits s (ops.IndirectUpdate id action) = change_unless_refused (shared_calls.update_fault s.rxq (objects s) id action) (changes.IndirectSet id action)
+changes_by limits s (ops.IndirectDestroy id) = change_unless_refused (shared_calls.destroy_fault (objects s) id) (changes.IndirectGone id)
+changes_by limits s (ops.IndirectQuery id) = []
 changes_by limits s (ops.Start _) = []
 changes_by limits s ops.Stop = []
 changes_by limits s ops.Quit = []

@@ -1,13 +1,14 @@
 pub mod Changes
 pub mod Counted
+pub mod Counters
 pub mod Effect
 pub mod Entries
 pub mod History
 pub mod Kept
+pub mod KeptState
+pub mod Raising
 pub mod Reply
-pub mod Room
 pub mod Rows
-pub mod Scan
 pub mod Seen
 pub mod Sound
 pub mod Standing

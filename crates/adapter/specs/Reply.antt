@@ -1,15 +1,24 @@
 -- The reply to a call: the first refusal whose condition holds, else what the call does.
 use Rattle.std.specs.Prelude.{ℕ, Bool, true, false, List, map, Option, None, Some}
+use Rattle.std.specs.List.{list_any}
 use Rattle.flow_rules.specs.declared.limits.Limits.{Limits}
 use Rattle.flow_rules.specs.declared.fault.Fault.{Fault}
 use Rattle.flow_rules.specs.declared.fault.Cause.TheVariants as causes
-use Rattle.flow_rules.specs.Faults.{first_fault}
+use Rattle.flow_rules.specs.Faults.{first_fault, is_count}
 use Rattle.adapter.specs.declared.call.Op.{Op}
 use Rattle.adapter.specs.declared.call.Op.TheVariants as ops
 use Rattle.adapter.specs.declared.reply.Reply.{Reply}
 use Rattle.adapter.specs.declared.reply.Reply.TheVariants as replies
 use Rattle.adapter.specs.declared.entry.Entry.{Entry}
-use Rattle.adapter.specs.State.{create_fault, is_in_effect, kinds_in, plain}
+use Rattle.flow_actions.specs.declared.action.Action.{Action}
+use Rattle.flow_rules.specs.declared.counter.Counter.TheVariants as counters
+use Rattle.flow_rules.specs.declared.counter.Count.{Count}
+use Rattle.flow_rules.specs.RuleView.{RuleView}
+use Rattle.flow_rules.specs.Naming.{rule_at}
+use Rattle.flow_rules.specs.Shared.{shared_at}
+use Rattle.object_ids.specs.Ids.{id_for}
+use Rattle.indirect_counters.specs.Refusals as shared_calls
+use Rattle.adapter.specs.State.{create_fault, is_in_effect, objects, kinds_in, plain, rule_in}
 use Rattle.adapter.specs.Standing.{Standing, standing_of}
 use Rattle.adapter.specs.Rows.{row_in}
 
@@ -22,14 +31,34 @@ abbrev pub reply_to_destroy : ℕ → Bool → Reply
 reply_to_destroy id true = replies.Destroyed id
 reply_to_destroy id false = replies.Fault (plain causes.NoRule)
 
+-- what a counter stands at, where it is there
+abbrev pub reply_of_count : Bool → Count → Reply
+reply_of_count true n = replies.Counted n.hits n.bytes
+reply_of_count false n = replies.Fault (plain causes.NoCounter)
+
+-- a rule is asked for its own COUNT
+abbrev pub reply_to_query : Option RuleView → Count → Reply
+reply_to_query None n = replies.Fault (plain causes.NoRule)
+reply_to_query (Some rule) n = reply_of_count (list_any is_count rule.actions) n
+
+abbrev pub reply_to_shared_query : Option Action → Count → Reply
+reply_to_shared_query None n = replies.Fault (plain causes.NoObject)
+reply_to_shared_query (Some value) n = reply_of_count (is_count value) n
+
 -- the reply that a standing gives
 abbrev pub answer_of : Limits → Standing → Op → Reply
 answer_of limits at (ops.Validate spec) = unless (first_fault limits (kinds_in at.state) spec) replies.Validated
 answer_of limits at (ops.Create spec) = unless (create_fault limits at.state spec) (replies.Created at.state.ids)
 answer_of limits at (ops.Destroy id) = reply_to_destroy id (is_in_effect id at.state)
 answer_of limits at ops.Flush = replies.Flushed
+answer_of limits at (ops.Query id) = reply_to_query (rule_at id (map rule_in at.state.rules)) (at.count (counters.Rule id))
 answer_of limits at ops.List = replies.Listed (map row_in at.state.rules)
 answer_of limits at (ops.Isolate on) = replies.Isolated on
+answer_of limits at (ops.IndirectCreate id attr action) =
+    unless (shared_calls.create_fault at.state.rxq (objects at.state) id attr action) (replies.IndirectCreated (id_for id (objects at.state)))
+answer_of limits at (ops.IndirectUpdate id action) = unless (shared_calls.update_fault at.state.rxq (objects at.state) id action) (replies.IndirectUpdated id)
+answer_of limits at (ops.IndirectDestroy id) = unless (shared_calls.destroy_fault (objects at.state) id) (replies.IndirectDestroyed id)
+answer_of limits at (ops.IndirectQuery id) = reply_to_shared_query (shared_at id at.state.shared) (at.count (counters.Shared id))
 answer_of limits at (ops.Start _) = replies.Started
 answer_of limits at ops.Stop = replies.Stopped at.totals
 answer_of limits at ops.Quit = replies.Bye

@@ -6,7 +6,7 @@ use Rattle.flow_actions.specs.Kinds.{kind_of, is_void}
 use Rattle.pattern_items.specs.Matches.{kinds_of}
 use Rattle.flow_rules.specs.RuleView.{RuleView}
 use Rattle.adapter.specs.declared.rows.ListRow.{ListRow}
-use Rattle.adapter.specs.declared.in_effect.InEffect.{InEffect}
+use Rattle.adapter.specs.State.{Placed}
 
 -- the kinds of the actions other than `Void`
 abbrev pub action_kinds : List Action → List ActionKind
@@ -21,5 +21,5 @@ row_of rule = record {
   actions = record { items = action_kinds rule.actions };
 }
 
-abbrev pub row_in : InEffect → ListRow
+abbrev pub row_in : Placed → ListRow
 row_in r = row_of r.rule

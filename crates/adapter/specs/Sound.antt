@@ -1,10 +1,14 @@
 -- What an adapter keeps true of its fields.
-use Rattle.std.specs.Prelude.{◌≡◌, ◌^◌, ◌≤◌, List, length}
+use Rattle.std.specs.Prelude.{◌≡◌, ◌^◌, ◌*◌, ◌≤◌, List, length}
 use Rattle.flow_rules.specs.declared.limits.Limits.{Limits}
 use Rattle.adapter.specs.declared.adapter.Adapter.TheInside.{Inside}
 use Rattle.adapter.specs.declared.entry.Entry.{Entry}
 use Rattle.adapter.specs.Seen.{Seen}
-use Rattle.adapter.specs.Standing.{Standing, standing_of, standing_kept}
+use Rattle.flow_rules.specs.declared.counter.Counter.{Counter}
+use Rattle.adapter.specs.State.{state_of}
+use Rattle.adapter.specs.Totals.{totals_of}
+use Rattle.adapter.specs.Counters.{count_of}
+use Rattle.adapter.specs.Standing.{Standing, standing_kept}
 use Rattle.adapter.specs.History.{IsLegal}
 
 -- the ranges of the limits
@@ -14,10 +18,14 @@ pub record AreLimits (limits : Limits) : Type 0 where
   pub some_rule : 1 ≤ limits.flow_max
   pub rules : limits.flow_max ≤ 65536
 
--- The limits are in their ranges. The history is legal, and short enough to be counted, and the standing is that behind it.
+-- The limits are in their ranges. The history is legal, and short enough to be counted, and the standing is that behind it. A frame
+-- names at most 256 counters, and has fewer than 2^32 bytes.
 pub record Sound (limits : Limits) (at : Standing) (history : List Entry) : Type 0 where
   pub ranges : AreLimits limits
-  pub current : at ≡ standing_of limits history
+  pub state : at.state ≡ state_of limits history
+  pub totals : at.totals ≡ totals_of history
+  pub counts : (c : Counter) → at.count c ≡ count_of limits history c
+  pub few : (c : Counter) → ((at.count c).hits ≤ 256 * length history) × ((at.count c).bytes ≤ 2 ^ 32 * (at.count c).hits)
   pub legal : IsLegal limits history
   pub short : length history ≤ 2 ^ 32
 

@@ -1,13 +1,16 @@
 -- The state behind a history, and what each call does to it.
 use Rattle.std.specs.Prelude.{ℕ, ◌+◌, ◌-◌, ◌^◌, Bool, false, not, ◌&&◌, List, [], ◌∷◌, ◌++◌, map, filter, count_by, nat_le, if◌then◌else◌, Option, None, Some, fold}
 use Rattle.std.specs.List.{list_any}
-use Rattle.std.specs.Option.{is_none}
+use Rattle.std.specs.Option.{is_none, option_map}
 use Rattle.flow_rules.specs.declared.limits.Limits.{Limits}
 use Rattle.flow_rules.specs.declared.spec.RuleSpec.{RuleSpec}
 use Rattle.flow_rules.specs.declared.fault.Fault.{Fault}
 use Rattle.flow_rules.specs.declared.fault.Cause.{Cause}
 use Rattle.flow_rules.specs.declared.fault.Cause.TheVariants as causes
-use Rattle.flow_rules.specs.Faults.{Kinds, first_fault, rule_of}
+use Rattle.flow_actions.specs.declared.action.Action.{Action}
+use Rattle.flow_actions.specs.Kinds.{kind_of}
+use Rattle.flow_rules.specs.Faults.{Kinds, first_fault, rule_of, is_shared}
+use Rattle.flow_rules.specs.Shared.{Shared, shared_at, with_shared, without_shared}
 use Rattle.flow_rules.specs.RuleView.{RuleView}
 use Rattle.flow_rules.specs.Walk.{Flows}
 use Rattle.flow_rules.specs.Changes.{has_id}
@@ -15,39 +18,48 @@ use Rattle.adapter.specs.declared.call.Op.{Op}
 use Rattle.adapter.specs.declared.call.Op.TheVariants as ops
 use Rattle.adapter.specs.declared.entry.Entry.{Entry}
 use Rattle.adapter.specs.declared.entry.Entry.TheVariants.{Asked, Passed}
-use Rattle.adapter.specs.declared.in_effect.InEffect.{InEffect}
+use Rattle.indirect_counters.specs.Counts.{no_count}
+use Rattle.indirect_counters.specs.Entries.{Entries}
+use Rattle.object_ids.specs.Ids.{id_for}
+use Rattle.indirect_counters.specs.Refusals as shared_calls
 
--- the rules in effect, in the order in which they took effect, each with its table, if it has one; whether a miss drops; how
--- many rule ids were given; and how many Rx queues the port has
+-- a rule in effect, with its table, if it stands in one
+pub record Placed : Type 0 where
+  pub rule : RuleView
+  pub table : Option ℕ
+
+-- the rules in effect, in the order in which they took effect; the actions that they share; whether a miss drops; how many rule
+-- ids were given; and how many Rx queues the port has
 pub record State : Type 0 where
-  pub rules : List InEffect
+  pub rules : List Placed
+  pub shared : Shared
   pub isolated : Bool
   pub ids : ℕ
   pub rxq : ℕ
 
 abbrev pub opening : Limits → State
-opening limits = record { rules = []; isolated = false; ids = 0; rxq = limits.rxq }
+opening limits = record { rules = []; shared = []; isolated = false; ids = 0; rxq = limits.rxq }
 
 -- what packets see of a state
-abbrev pub rule_in : InEffect → RuleView
+abbrev pub rule_in : Placed → RuleView
 rule_in r = r.rule
 
 abbrev pub flows_of : State → Flows
-flows_of s = record { rules = map rule_in s.rules; isolated = s.isolated; rxq = s.rxq }
+flows_of s = record { rules = map rule_in s.rules; shared = s.shared; isolated = s.isolated; rxq = s.rxq }
 
 -- a rule that stands in no table: `flow create` made it, and `flow destroy` takes it away
-abbrev pub is_plain : InEffect → Bool
+abbrev pub is_plain : Placed → Bool
 is_plain r = is_none r.table
 
-abbrev pub is_plain_of : ℕ → InEffect → Bool
+abbrev pub is_plain_of : ℕ → Placed → Bool
 is_plain_of id r = has_id id r.rule && is_plain r
 
 abbrev pub is_in_effect : ℕ → State → Bool
 is_in_effect id s = list_any (is_plain_of id) s.rules
 
--- what is known of the actions that rules share: there are none
+-- what is known of the actions that rules share
 abbrev pub kinds_in : State → Kinds
-kinds_in s id = None
+kinds_in s id = option_map kind_of (shared_at id s.shared)
 
 -- a fault that names no place
 abbrev pub plain : Cause → Fault
@@ -69,7 +81,7 @@ abbrev pub create_fault : Limits → State → RuleSpec → Option Fault
 create_fault limits s spec = first_of (first_fault limits (kinds_in s) spec) (room_fault limits s)
 
 -- a rule takes effect, behind all others
-abbrev pub took_effect : InEffect → State → State
+abbrev pub took_effect : Placed → State → State
 took_effect rule s = record s { rules = s.rules ++ rule ∷ [] }
 
 -- one more id is given
@@ -89,6 +101,21 @@ flushed s = record s { rules = [] }
 abbrev pub isolated : Bool → State → State
 isolated on s = record s { isolated = on }
 
+-- a shared action has this value from here on
+abbrev pub shared_set : ℕ → Action → State → State
+shared_set id value s = record s { shared = with_shared id value s.shared }
+
+abbrev pub shared_gone : ℕ → State → State
+shared_gone id s = record s { shared = without_shared id s.shared }
+
+-- a rule uses a shared action
+abbrev pub is_user : ℕ → Placed → Bool
+is_user id r = list_any (is_shared id) r.rule.actions
+
+-- the shared actions as they are judged by: each with the number of rules that use it
+abbrev pub objects : State → Entries
+objects s = map (λ (entry : ℕ × Action). (entry.0, record { value = entry.1; users = count_by (is_user entry.0) s.rules; held = false; count = no_count })) s.shared
+
 -- a call that has a fault leaves the state
 abbrev pub unless_refused : Option Fault → State → State → State
 unless_refused None done s = done
@@ -100,8 +127,14 @@ next_state limits s (ops.Validate spec) = s
 next_state limits s (ops.Create spec) = unless_refused (create_fault limits s spec) (created (rule_of s.ids spec) s) s
 next_state limits s (ops.Destroy id) = if is_in_effect id s then destroyed id s else s
 next_state limits s ops.Flush = flushed s
+next_state limits s (ops.Query id) = s
 next_state limits s ops.List = s
 next_state limits s (ops.Isolate on) = isolated on s
+next_state limits s (ops.IndirectCreate id attr action) =
+    unless_refused (shared_calls.create_fault s.rxq (objects s) id attr action) (shared_set (id_for id (objects s)) action s) s
+next_state limits s (ops.IndirectUpdate id action) = unless_refused (shared_calls.update_fault s.rxq (objects s) id action) (shared_set id action s) s
+next_state limits s (ops.IndirectDestroy id) = unless_refused (shared_calls.destroy_fault (objects s) id) (shared_gone id s) s
+next_state limits s (ops.IndirectQuery id) = s
 next_state limits s (ops.Start _) = s
 next_state limits s ops.Stop = s
 next_state limits s ops.Quit = s

@@ -91,7 +91,7 @@ impl Adapter {
         let Outcome { reply, effect } = judge(self.alloc, &self.limits, &self.standing, &call.op)?;
         let kept = reply.clone()?;
         self.history.add_call(caller, call, kept)?;
-        self.standing.state.carry_out(effect);
+        self.standing.state.carry_out(&self.limits, effect);
         Ok(reply)
     }
 
@@ -113,6 +113,9 @@ impl Adapter {
             return Err(AllocError);
         }
         self.history.add_frame(caller, parcel, verdict)?;
+        self.standing
+            .state
+            .raise(verdict.path.as_slice(), parcel.len);
         count(&mut self.standing.totals, verdict.fate);
         Ok(())
     }

@@ -2,7 +2,8 @@
 ghost use Rattle.std.specs.Prelude.{◌≡◌};
 
 use crate::shared::Shared;
-use flow_rules::RuleSpec;
+use flow_actions::Action;
+use flow_rules::{Attr, RuleSpec};
 use std::alloc::AllocError;
 
 /// Where a call stands in its script: the line, counted from 1, and the part of that line, counted from 1.
@@ -36,10 +37,27 @@ pub enum Op {
     Destroy(u32),
     /// `flow flush`: all rules go.
     Flush,
+    /// `flow query`: what the COUNT of the rule of this id has counted.
+    Query(u32),
     /// `flow list`: the rules in effect.
     List,
     /// `flow isolate`: whether frames that no rule takes are dropped.
     Isolate(bool),
+    /// `flow indirect_action create`: an action that rules can share takes effect, at this id or at the least unused one.
+    IndirectCreate {
+        id: Option<u16>,
+        attr: Attr,
+        action: Shared<Action>,
+    },
+    /// `flow indirect_action update`: the action of this id has this value for all rules that share it.
+    IndirectUpdate {
+        id: u16,
+        action: Shared<Action>,
+    },
+    /// `flow indirect_action destroy`: the action of this id goes.
+    IndirectDestroy(u16),
+    /// `flow indirect_action query`: what the COUNT of this id has counted.
+    IndirectQuery(u16),
     /// Opens a phase over so many of the remaining frames, or over all of them.
     Start(Option<u32>),
     /// Closes a phase.

@@ -1,4 +1,5 @@
 //! What an accepted call does, told before it is done.
+use flow_actions::Action;
 use flow_rules::Rule;
 
 /// What a call does to the state.
@@ -11,6 +12,12 @@ pub(crate) enum Effect {
     Destroyed(u32),
     /// All rules go.
     Flushed,
+    /// A shared action takes effect at this id.
+    SharedCreated(u16, Action),
+    /// The shared action of this id has this value.
+    SharedUpdated(u16, Action),
+    /// The shared action of this id goes.
+    SharedDestroyed(u16),
     /// Whether frames that no rule takes are dropped.
     Isolated(bool),
 }

@@ -89,7 +89,7 @@ const _: () = prove!(size_of::<Kept>() <= 88);
 
 const _: () = prove!(size_of::<Stack>() <= 104);
 
-const _: () = prove!(size_of::<AskedCall>() <= 72);
+const _: () = prove!(size_of::<AskedCall>() <= 80);
 
 /// A call and its reply, as they are kept.
 pub(crate) fn keep_call(

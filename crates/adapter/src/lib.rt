@@ -1,4 +1,5 @@
-//! The plain one-thread adapter: the rules in effect, and the history of all that was asked and all that passed.
+//! The plain one-thread adapter: the rules in effect with the actions that they share, and the history of all that was asked and all
+//! that passed.
 //!
 //! Its model in one sentence: an adapter is its limits and its history, a list of entries that is always legal.
 //!
@@ -7,10 +8,12 @@
 //!
 //! The naive answer keeps nothing but the list of entries. Each entry is a call with its reply, or a frame with its
 //! verdict. To answer a call it folds the whole list into the state behind it: the rules in effect, in the order in which
-//! they took effect. A frame's verdict is found by a walk that scans those rules, group by group. The totals are counts
-//! over the entries.
+//! they took effect, and the actions that they share. A frame's verdict is found by a walk that scans those rules, group by
+//! group. The totals are counts over the entries, and so is what a counter stands at: each frame adds to the counters that its
+//! walk names.
 //!
-//! The code here does the same with running values: a vector of the rules in effect and counters of the frames. The
+//! The code here does the same with running values: the rules in effect and the shared actions, each with what it has counted,
+//! and counts of the frames. A frame's counters rise with its entry: they are found by the rules on its path (`raising`). The
 //! type's invariant says that they are those of the history, and that the history is legal: each reply and each verdict is
 //! the one that the entries before it give. So each call has one exact clause, in the words of the history alone, and
 //! whoever stands above needs nothing else.
@@ -21,7 +24,8 @@
 //! this answers want of memory.
 //!
 //! The definitions stand in `specs/`: `History` (what is legal), `State` (what calls do), `Changes` (what packets see of
-//! that), `Standing` (what a reply depends on), `Reply` (what calls answer), `Rows` (what a list of rules tells), `Totals`;
+//! that), `Standing` (what a reply depends on), `Reply` (what calls answer), `Rows` (what a list of rules tells), `Totals` and
+//! `Counters`; why calls on shared actions are refused stands in `indirect_counters`;
 //! what rules do to frames stands in `flow_rules`. A later command adds a case to `State`, `Changes` and `Reply`; nothing
 //! above these words looks inside.
 //!
@@ -38,15 +42,14 @@ mod count;
 mod effect;
 mod entry;
 mod history;
-mod in_effect;
 mod kept;
 mod laws;
 mod listing;
 mod outcome;
 mod parcel;
+mod raising;
 mod reply;
 mod rows;
-mod scan;
 mod shared;
 mod standing;
 mod state;

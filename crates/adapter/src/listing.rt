@@ -1,17 +1,17 @@
 //! The rows of a list of rules.
 ghost use Rattle.std.specs.Prelude.{◌≡◌, ◌≤◌, length, map, IfOk};
-ghost use Rattle.adapter.specs.Rows.{row_of, row_in, action_kinds};
+ghost use Rattle.adapter.specs.Rows.{row_of, action_kinds};
 
-use crate::in_effect::InEffect;
 use crate::rows::{ListRow, RuleList};
 use arrayvec::ArrayVec;
 use flow_actions::{Action, ActionKind, MAX_ACTIONS};
 use flow_rules::Rule;
+use rules_in_effect::InEffect;
 use std::alloc::{AllocError, Global};
 
 /// The rows of all rules in effect.
-pub(crate) fn list_of(alloc: Global, rules: &[InEffect]) -> Result<RuleList, AllocError>
-    ensures { IfOk result (λ list. list ≡ map row_in rules.now) }
+pub(crate) fn list_of(alloc: Global, rules: &[&InEffect]) -> Result<RuleList, AllocError>
+    ensures { IfOk result (λ list. list ≡ map (λ entry. row_of entry.now.rule) rules.now) }
 {
     let mut rows = Vec::new(alloc);
     for entry in rules {

@@ -1,10 +1,13 @@
 //! The reply to a call, and what the call does.
-ghost use Rattle.std.specs.Prelude.{◌≡◌, None, IfOk, if◌then◌else◌};
+ghost use Rattle.std.specs.Prelude.{◌≡◌, IfOk, if◌then◌else◌};
 ghost use Rattle.std.specs.Result.{result_err};
 ghost use Rattle.flow_rules.specs.Faults.{first_fault, rule_of};
-ghost use Rattle.adapter.specs.State.{create_fault, destroyed, is_in_effect, next_state};
+ghost use Rattle.object_ids.specs.Ids.{id_for};
+ghost use Rattle.indirect_counters.specs.Refusals as shared_calls;
+ghost use Rattle.adapter.specs.State.{create_fault, destroyed, is_in_effect, kinds_in, next_state, objects, shared_gone, unless_refused};
+ghost use Rattle.adapter.specs.KeptState.{state_in};
 ghost use Rattle.adapter.specs.Standing.{standing_kept};
-ghost use Rattle.adapter.specs.Effect.{done};
+ghost use Rattle.adapter.specs.Effect.{done, IsDue, HaveFreshIds};
 ghost use Rattle.adapter.specs.Reply.{answer_of, reply_to_destroy, unless};
 ghost use Rattle.adapter.specs.declared.call.Op.TheVariants as ops;
 ghost use Rattle.adapter.specs.declared.effect.Effect.TheVariants as effects;
@@ -15,9 +18,9 @@ use crate::effect::Effect;
 use crate::reply::Reply;
 use crate::shared::Shared;
 use crate::standing::Standing;
-use crate::state::State;
-use flow_actions::ActionKind;
-use flow_rules::{Cause, Fault, Known, Limits, Rule, RuleSpec, validate};
+use crate::state::{State, plain};
+use flow_actions::Action;
+use flow_rules::{Attr, Cause, Fault, Limits, Rule, RuleSpec, validate};
 use std::alloc::{AllocError, Global};
 
 /// The reply to a call, and what the call does.
@@ -27,19 +30,6 @@ pub(crate) struct Outcome {
     pub(crate) effect: Effect,
 }
 
-/// No action is shared by rules.
-struct NothingKnown;
-
-impl Known for NothingKnown {
-    ghost use Rattle.std.specs.Prelude.{None};
-
-    ghost kinds = { λ _ _. None };
-
-    fn kind_of(&self, _id: u32) -> Option<ActionKind> {
-        None
-    }
-}
-
 /// What a call comes to.
 pub(crate) fn judge(
     alloc: Global,
@@ -47,16 +37,27 @@ pub(crate) fn judge(
     standing: &Standing,
     op: &Op,
 ) -> Result<Outcome, AllocError>
+    requires port { limits.now.rxq ≡ (state_in standing.now.state).rxq }
     ensures reply { IfOk result (λ o. o.reply ≡ answer_of limits.now (standing_kept standing.now) op.now) }
-    ensures effect { IfOk result (λ o. done standing.now.state.state o.effect ≡ next_state limits.now standing.now.state.state op.now) }
+    ensures effect { IfOk result (λ o. done (state_in standing.now.state) o.effect ≡ next_state limits.now (state_in standing.now.state) op.now) }
+    ensures due { IfOk result (λ o. HaveFreshIds (state_in standing.now.state) → IsDue (state_in standing.now.state) o.effect) }
 {
     let judged = match op {
-        Op::Validate(spec) => replies(validated(limits, spec.get())),
+        Op::Validate(spec) => replies(validated(limits, &standing.state, spec.get())),
         Op::Create(spec) => created(limits, &standing.state, spec.get()),
         Op::Destroy(id) => destroyed(&standing.state, *id),
         Op::Flush => does(Reply::Flushed, Effect::Flushed),
+        Op::Query(id) => replies(standing.state.query(*id)),
         Op::List => replies(Reply::Listed(standing.state.list(alloc)?)),
         Op::Isolate(on) => does(Reply::Isolated(*on), Effect::Isolated(*on)),
+        Op::IndirectCreate { id, attr, action } => {
+            shared_created(limits, &standing.state, *id, attr, action.get())
+        }
+        Op::IndirectUpdate { id, action } => {
+            shared_updated(limits, &standing.state, *id, action.get())
+        }
+        Op::IndirectDestroy(id) => shared_destroyed(&standing.state, *id),
+        Op::IndirectQuery(id) => replies(standing.state.query_shared(*id)),
         Op::Start(_) => replies(Reply::Started),
         Op::Stop => replies(Reply::Stopped(Shared::new(alloc, standing.totals)?)),
         Op::Quit => replies(Reply::Bye),
@@ -83,10 +84,10 @@ fn does(reply: Reply, effect: Effect) -> Outcome
 }
 
 /// Whether a rule would be taken.
-fn validated(limits: &Limits, spec: &RuleSpec) -> Reply
-    ensures { result ≡ unless (first_fault limits.now (λ _. None) spec.now) replies.Validated }
+fn validated(limits: &Limits, state: &State, spec: &RuleSpec) -> Reply
+    ensures { result ≡ unless (first_fault limits.now (kinds_in (state_in state.now)) spec.now) replies.Validated }
 {
-    match validate(spec, limits, &NothingKnown, 0) {
+    match validate(spec, limits, state, 0) {
         Ok(_) => Reply::Validated,
         Err(fault) => Reply::Fault(fault),
     }
@@ -94,10 +95,10 @@ fn validated(limits: &Limits, spec: &RuleSpec) -> Reply
 
 /// The rule that takes effect, or the first fault.
 fn new_rule(limits: &Limits, state: &State, spec: &RuleSpec) -> Result<Rule, Fault>
-    ensures rule { IfOk result (λ rule. rule ≡ rule_of state.now.state.ids spec.now) }
-    ensures fault { result_err result ≡ create_fault limits.now state.now.state spec.now }
+    ensures rule { IfOk result (λ rule. rule ≡ rule_of (state_in state.now).ids spec.now) }
+    ensures fault { result_err result ≡ create_fault limits.now (state_in state.now) spec.now }
 {
-    let rule = match validate(spec, limits, &NothingKnown, state.next_id()) {
+    let rule = match validate(spec, limits, state, state.next_id()) {
         Ok(rule) => rule,
         Err(fault) => return Err(fault),
     };
@@ -108,8 +109,9 @@ fn new_rule(limits: &Limits, state: &State, spec: &RuleSpec) -> Result<Rule, Fau
 }
 
 fn created(limits: &Limits, state: &State, spec: &RuleSpec) -> Outcome
-    ensures reply { result.reply ≡ unless (create_fault limits.now state.now.state spec.now) (replies.Created state.now.state.ids) }
-    ensures effect { done state.now.state result.effect ≡ next_state limits.now state.now.state (ops.Create spec.now) }
+    ensures reply { result.reply ≡ unless (create_fault limits.now (state_in state.now) spec.now) (replies.Created (state_in state.now).ids) }
+    ensures effect { done (state_in state.now) result.effect ≡ next_state limits.now (state_in state.now) (ops.Create spec.now) }
+    ensures due { HaveFreshIds (state_in state.now) → IsDue (state_in state.now) result.effect }
 {
     match new_rule(limits, state, spec) {
         Ok(rule) => does(Reply::Created(rule.id()), Effect::Created(rule)),
@@ -118,14 +120,62 @@ fn created(limits: &Limits, state: &State, spec: &RuleSpec) -> Outcome
 }
 
 fn destroyed(state: &State, id: u32) -> Outcome
-    ensures reply { result.reply ≡ reply_to_destroy id (is_in_effect id state.now.state) }
-    ensures effect { done state.now.state result.effect ≡ if is_in_effect id state.now.state then destroyed id state.now.state else state.now.state }
+    ensures reply { result.reply ≡ reply_to_destroy id (is_in_effect id (state_in state.now)) }
+    ensures effect { done (state_in state.now) result.effect ≡ if is_in_effect id (state_in state.now) then destroyed id (state_in state.now) else (state_in state.now) }
+    ensures due { IsDue (state_in state.now) result.effect }
 {
     if state.is_in_effect(id) {
         return does(Reply::Destroyed(id), Effect::Destroyed(id));
     }
-    replies(Reply::Fault(Fault {
-        cause: Cause::NoRule,
-        at: 0,
-    }))
+    replies(Reply::Fault(plain(Cause::NoRule)))
+}
+
+fn shared_created(
+    limits: &Limits,
+    state: &State,
+    id: Option<u16>,
+    attr: &Attr,
+    action: &Action,
+) -> Outcome
+    requires port { limits.now.rxq ≡ (state_in state.now).rxq }
+    ensures reply { result.reply ≡ unless (shared_calls.create_fault (state_in state.now).rxq (objects (state_in state.now)) id attr.now action.now)
+        (replies.IndirectCreated (id_for id (objects (state_in state.now)))) }
+    ensures effect { done (state_in state.now) result.effect ≡ next_state limits.now (state_in state.now) (ops.IndirectCreate id attr.now action.now) }
+    ensures due { IsDue (state_in state.now) result.effect }
+{
+    if let Some(fault) = state.create_fault(limits, id, attr, action) {
+        return replies(Reply::Fault(fault));
+    }
+    let new = state.new_id(id);
+    does(
+        Reply::IndirectCreated(new),
+        Effect::SharedCreated(new, action.copied()),
+    )
+}
+
+fn shared_updated(limits: &Limits, state: &State, id: u16, action: &Action) -> Outcome
+    requires port { limits.now.rxq ≡ (state_in state.now).rxq }
+    ensures reply { result.reply ≡ unless (shared_calls.update_fault (state_in state.now).rxq (objects (state_in state.now)) id action.now) (replies.IndirectUpdated id) }
+    ensures effect { done (state_in state.now) result.effect ≡ next_state limits.now (state_in state.now) (ops.IndirectUpdate id action.now) }
+    ensures due { IsDue (state_in state.now) result.effect }
+{
+    match state.update_fault(limits, id, action) {
+        Some(fault) => replies(Reply::Fault(fault)),
+        None => does(
+            Reply::IndirectUpdated(id),
+            Effect::SharedUpdated(id, action.copied()),
+        ),
+    }
+}
+
+fn shared_destroyed(state: &State, id: u16) -> Outcome
+    ensures reply { result.reply ≡ unless (shared_calls.destroy_fault (objects (state_in state.now)) id) (replies.IndirectDestroyed id) }
+    ensures effect { done (state_in state.now) result.effect
+        ≡ unless_refused (shared_calls.destroy_fault (objects (state_in state.now)) id) (shared_gone id (state_in state.now)) (state_in state.now) }
+    ensures due { IsDue (state_in state.now) result.effect }
+{
+    match state.destroy_fault(id) {
+        Some(fault) => replies(Reply::Fault(fault)),
+        None => does(Reply::IndirectDestroyed(id), Effect::SharedDestroyed(id)),
+    }
 }

@@ -24,9 +24,17 @@ pub enum Reply {
     Destroyed(u32),
     /// All rules are gone.
     Flushed,
+    /// Frames, and their bytes.
+    Counted(u64, u128),
     Listed(RuleList),
     /// Whether frames that no rule takes are dropped from now on.
     Isolated(bool),
+    /// The shared action of this id took effect.
+    IndirectCreated(u16),
+    /// The shared action of this id has its new value.
+    IndirectUpdated(u16),
+    /// The shared action of this id is gone.
+    IndirectDestroyed(u16),
     Started,
     Stopped(Shared<Totals>),
     /// The script ends.

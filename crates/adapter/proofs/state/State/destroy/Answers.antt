@@ -1,14 +1,25 @@
-use Rattle.std.proofs.Common.{rules, ◌≡◌, ap, ◌∙◌, not, filter, List}
-use Rattle.std.proofs.lemmas.Fn.{filter_same}
-use Rattle.flow_rules.specs.Changes.{has_id}
-use Rattle.adapter.specs.declared.in_effect.InEffect.{InEffect}
-use Rattle.adapter.specs.State.{State, destroyed}
-use Rattle.adapter.specs.Room.{StateWithRoom}
+use Rattle.std.proofs.Common.{sym, subst, ap, ◌∙◌, map, List}
+use Rattle.rules_in_effect.specs.declared.in_effect.InEffect.{InEffect}
+use Rattle.rules_in_effect.specs.Entries as rules
+use Rattle.indirect_counters.specs.Entries.{entry_at, values_in_effect}
+use Rattle.adapter.specs.State.{State, Placed, destroyed}
+use Rattle.adapter.specs.KeptState.{KeptState, state_in, placed}
+use Rattle.adapter.specs.StateInside.{state_kept}
+use Rattle.adapter.proofs.RulesKept.{without-placed}
+use Rattle.adapter.proofs.Carried.{carried, CarriesRule, removed_rule, same_shared}
 use Rattle.adapter.proofs.state.State.destroy.Goals as goal
 
-pub returns : goal.returns
-returns c =
-    let kept : c.retain.new.self.items ≡ filter (λ (r : InEffect). not (has_id c.args.id r.rule)) c.self.inside.rules.items
-    = filter_same _ (λ (r : InEffect). not (has_id c.args.id r.rule)) _ (λ x b q h. search rules) _ _ c.retain.ensures.filtered in
-    let with_rules : List InEffect → State = λ rules. record { rules = rules; isolated = c.self.inside.isolated; ids = c.self.inside.ids; rxq = c.self.inside.rxq } in
-    ap with_rules kept ∙ ap (λ (s : StateWithRoom). destroyed c.args.id s.state) c.self.view_is
+pub returns-clause-state : goal.returns-clause-state
+returns-clause-state c =
+    let s = c.self.inside in
+    let with_rules : List Placed → State = λ rs. record { rules = rs; shared = values_in_effect s.shared.entries; isolated = s.isolated; ids = s.ids; rxq = s.rxq } in
+    ap (λ (list : List InEffect). with_rules (map placed list)) c.remove.ensures.others
+    ∙ ap with_rules (without-placed c.args.id s.rules.list)
+    ∙ ap (λ (k : KeptState). destroyed c.args.id (state_in k)) c.self.view_is
+
+pub returns-clause-counts : goal.returns-clause-counts
+returns-clause-counts c =
+    let s = c.self.inside in
+    carried (state_kept s) _ c.self.view_is c.remove.new.self.list s.shared.entries s.isolated s.rxq c.self.invariant.in_effect
+    (λ q. subst (λ (list : List InEffect). CarriesRule (rules.entry_at q s.rules.list) (rules.entry_at q list)) (sym c.remove.ensures.others) (removed_rule c.args.id q s.rules.list))
+    (λ q. same_shared (entry_at q s.shared.entries))
