@@ -7,6 +7,7 @@ pub mod FieldTable
 pub mod TurnSteps
 pub mod IdSteps
 pub mod TurnsWritten
+pub mod IdBounds
 pub mod WrittenItems
 pub mod WrittenLists
 pub mod WrittenActions

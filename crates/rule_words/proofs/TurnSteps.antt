@@ -1,6 +1,6 @@
 -- One more turn.
 use Rattle.std.proofs.Common.{◌≡◌, ℕ, ◌+◌, ◌-◌, ◌<◌, ◌≤◌, cond, List, [], ◌∷◌, length, take, drop, map, get_or, Option, None, Some, true, false, refl, sym, ap, ◌∙◌, suc, zero}
-use Rattle.std.specs.Option.{option_and_then}
+use Rattle.std.specs.Option.{option_and_then, option_map}
 use Rattle.std.specs.Str.{bytes_eq}
 use Rattle.std.proofs.lemmas.List.{drop_more, at_drop_all, take_rest}
 use Rattle.rule_words.specs.Turns.{turns}
@@ -62,3 +62,25 @@ map-drop f (x ∷ xs) (suc at) = map-drop f xs at
 
 pub map-rest : {X Y : Type 0} (f : X → Y) (xs : List X) (at : ℕ) → map f (take (length xs - at) (drop at xs)) ≡ drop at (map f xs)
 map-rest f xs at = ap (map f) (take_rest xs at) ∙ map-drop f xs at
+
+-- turns of one value in turns of another
+pub turns-within : {X A B : Type 0} (f : A → B) (ending : List ℕ) (turn : A → List (List ℕ) → Option (A × List (List ℕ))) (outer : B → List (List ℕ) → Option (B × List (List ℕ)))
+    → ((a : A) (words : List (List ℕ)) → outer (f a) words ≡ option_map (λ read. (f read.0, read.1)) (turn a words))
+    → (fuel : List X) (a : A) (words : List (List ℕ)) → turns fuel ending outer (f a) words ≡ option_map (λ read. (f read.0, read.1)) (turns fuel ending turn a words)
+turns-within f ending turn outer each [] a words = refl
+turns-within f ending turn outer each (x ∷ xs) a [] = refl
+turns-within {X} {A} {B} f ending turn outer each (x ∷ xs) a (word ∷ words) =
+    let out : A × List (List ℕ) → B × List (List ℕ) = λ read. (f read.0, read.1) in
+    let said : option_and_then (λ (read : B × List (List ℕ)). turns xs ending outer read.0 read.1) (outer (f a) (word ∷ words))
+    ≡ option_map out (option_and_then (λ (read : A × List (List ℕ)). turns xs ending turn read.0 read.1) (turn a (word ∷ words)))
+    = ap (option_and_then (λ (read : B × List (List ℕ)). turns xs ending outer read.0 read.1)) (each a (word ∷ words))
+    ∙ elim (turn a (word ∷ words)) as (λ o. option_and_then (λ (read : B × List (List ℕ)). turns xs ending outer read.0 read.1) (option_map out o)
+    ≡ option_map out (option_and_then (λ (read : A × List (List ℕ)). turns xs ending turn read.0 read.1) o)) [
+      | None ↦ refl
+      | Some read ↦ turns-within f ending turn outer each xs read.0 read.1
+    ] in
+    elim (bytes_eq word ending) as (λ t. cond t (Some (f a, words)) (option_and_then (λ (read : B × List (List ℕ)). turns xs ending outer read.0 read.1) (outer (f a) (word ∷ words)))
+    ≡ option_map out (cond t (Some (a, words)) (option_and_then (λ (read : A × List (List ℕ)). turns xs ending turn read.0 read.1) (turn a (word ∷ words))))) [
+      | true ↦ refl
+      | false ↦ said
+    ]

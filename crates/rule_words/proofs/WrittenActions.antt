@@ -1,5 +1,5 @@
 -- Actions that are written as the grammar says are read so, and what is read was written so.
-use Rattle.std.proofs.Common.{◌≡◌, ℕ, ◌≤◌, false, List, [], ◌∷◌, ◌++◌, length, codes, None, Some, refl, arith, sym, ap, ◌∙◌}
+use Rattle.std.proofs.Common.{◌≡◌, ℕ, ◌≤◌, false, true, cond, List, [], ◌∷◌, ◌++◌, length, codes, None, Some, refl, arith, sym, subst, ap, ◌∙◌}
 use Rattle.std.specs.Option.{option_and_then, option_map}
 use Rattle.std.specs.Str.{bytes_eq}
 use Rattle.std.proofs.lemmas.Slice.Eq.{bytes_eq-Decides}
@@ -11,10 +11,11 @@ use Rattle.flow_actions.specs.declared.action.Actions.{Actions}
 use Rattle.flow_actions.specs.declared.rss.Rss.{Rss}
 use Rattle.flow_actions.specs.Kinds.{kind_of}
 use Rattle.rule_words.specs.Vocabulary.{meaning_of}
+use Rattle.rule_words.specs.Number.{number_of_bits}
 use Rattle.rule_words.specs.Turns.{up_to}
 use Rattle.rule_words.specs.RssLists.{list_words, rss_setting}
-use Rattle.rule_words.specs.Actions.{words, with_value, with_word, value_setting, setting, with_action, action_behind}
-use Rattle.rule_words.specs.Written.{words_up_to, made_by, alone, list_with, WrittenSetting, Value, Listed, setting_words, action_with, WrittenAction, action_words, actions_with}
+use Rattle.rule_words.specs.Actions.{words, with_value, with_word, value_setting, setting, with_action, begun, action_of, action_behind}
+use Rattle.rule_words.specs.Written.{words_up_to, made_by, alone, list_with, WrittenSetting, Value, Listed, setting_words, action_with, WrittenAction, Named, Shared, action_words, action_of_kind, action_said, actions_with}
 use Rattle.rule_words.proofs.WrittenLists.{rss-read, rss-only}
 use Rattle.rule_words.proofs.TurnsWritten.{on_some, on_map, is_false, up_to-read, turns-only}
 
@@ -76,37 +77,120 @@ some_words : (s : WrittenSetting) → 1 ≤ length (setting_words s)
 some_words (Value name value) = omega arith
 some_words (Listed name listed) = omega arith
 
-action-read : (a b : Actions) (w : WrittenAction) (rest : List (List ℕ)) → actions_with a w ≡ Some b → action_behind a (action_words w ++ rest) ≡ Some (b, rest)
-action-read a b w rest is =
-    let begun = on_some (meaning_of words w.word) (λ begun. option_map (with_action a) (made_by action_with (with_value begun 0) w.settings)) b is in
-    let whole = on_map (made_by action_with (with_value begun.0 0) w.settings) (with_action a) b begun.2 in
-    ap (option_and_then (λ q. option_map (λ read. (with_action a read.0, read.1)) (up_to (codes "/") setting (with_value q 0) (words_up_to (codes "/") setting_words w.settings ++ rest)))) begun.1
-    ∙ ap (option_map (λ read. (with_action a read.0, read.1)))
-    (up_to-read (codes "/") setting setting_words action_with some_words setting-read setting-begins w.settings (with_value begun.0 0) whole.0 rest whole.1)
-    ∙ ap (λ p. Some (p, rest)) whole.2
+-- the word of an action that is named by its word alone
+unshared : (k : ActionKind) (a : Action) (rest : List (List ℕ)) → action_of_kind k ≡ Some a → begun k rest ≡ Some (a, rest)
+unshared kinds.Indirect a rest is = absurd cc
+unshared k a rest is = ap (option_map (λ b. (b, rest))) is
 
-action-begins : (a b : Actions) (w : WrittenAction) → actions_with a w ≡ Some b → (word : List ℕ) × (others : List (List ℕ)) × (action_words w ≡ word ∷ others) × (bytes_eq word (codes "end") ≡ false)
-action-begins a b w is =
-    let begun = on_some (meaning_of words w.word) (λ begun. option_map (with_action a) (made_by action_with (with_value begun 0) w.settings)) b is in
-    (w.word, words_up_to (codes "/") setting_words w.settings, refl, end-action begun.0 w.word begun.1)
+-- a row of a table stands behind what its word means
+abbrev EachRow : {X : Type 0} → (List ℕ → X → Type 0) → List (List ℕ × X) → Type 0
+EachRow P [] = Unit
+EachRow P (row ∷ rows) = P row.0 row.1 × EachRow P rows
 
-action-only : (a b : Actions) (given rest : List (List ℕ)) → action_behind a given ≡ Some (b, rest) → (w : WrittenAction) × (given ≡ action_words w ++ rest) × (actions_with a w ≡ Some b)
-action-only a b [] rest is = absurd cc
-action-only a b (word ∷ others) rest is =
-    let begun = on_some (meaning_of words word) (λ begun. option_map (λ read. (with_action a read.0, read.1)) (up_to (codes "/") setting (with_value begun 0) others)) (b, rest) is in
-    let read = on_map (up_to (codes "/") setting (with_value begun.0 0) others) (λ read. (with_action a read.0, read.1)) (b, rest) begun.2 in
-    let settings = turns-only (codes "/") setting setting_words action_with setting-only others (with_value begun.0 0) read.0.0 others read.0.1 read.1 in (
-      record { word = word; settings = settings.0 },
-      ap (λ ws. word ∷ ws) (settings.1 ∙ ap (λ (p : Actions × List (List ℕ)). words_up_to (codes "/") setting_words settings.0 ++ p.1) read.2),
-      ap (option_and_then (λ q. option_map (with_action a) (made_by action_with (with_value q 0) settings.0))) begun.1
-          ∙ ap (option_map (with_action a)) settings.2 ∙ ap (λ (p : Actions × List (List ℕ)). Some p.0) read.2,
+row-of : {X : Type 0} (P : List ℕ → X → Type 0) (rows : List (List ℕ × X)) (word : List ℕ) (x : X) → EachRow P rows → meaning_of rows word ≡ Some x → P word x
+row-of P [] word x each is = absurd cc
+row-of P (row ∷ rows) word x each is =
+    elim (bytes_eq row.0 word) as (λ t. bytes_eq row.0 word ≡ t → cond t (Some row.1) (meaning_of rows word) ≡ Some x → P word x) [
+      | true ↦ λ same e.
+          let meant : row.1 ≡ x = cc in
+          let name : row.0 ≡ word = (bytes_eq-Decides row.0 word).0 same in
+          subst (λ w. P w x) name (subst (P row.0) meant each.0)
+      | false ↦ λ other e. row-of P rows word x each.1 e
+    ] refl is
+
+-- `indirect` is the word of an action that rules share, and of no other
+abbrev IsIndirect : List ℕ → ActionKind → Type 0
+IsIndirect word kinds.Indirect = word ≡ codes "indirect"
+IsIndirect word k = Unit
+
+indirect-word : (word : List ℕ) → meaning_of words word ≡ Some kinds.Indirect → word ≡ codes "indirect"
+indirect-word word is = row-of IsIndirect words word kinds.Indirect (tt, (tt, (tt, (tt, (tt, (tt, (tt, (refl, (tt, (tt, (tt, (tt, (tt, (tt, (tt, (tt, (tt, (tt, (tt, tt))))))))))))))))))) is
+
+pub action-read : (w : WrittenAction) (a : Action) (rest : List (List ℕ)) → action_said w ≡ Some a → action_of (action_words w ++ rest) ≡ Some (a, rest)
+action-read (Named word settings) a rest is =
+    let k = on_some (meaning_of words word) (λ k. option_and_then (λ a. made_by action_with a settings) (action_of_kind k)) a is in
+    let begins = on_some (action_of_kind k.0) (λ a. made_by action_with a settings) a k.2 in
+    let others = words_up_to (codes "/") setting_words settings ++ rest in
+    ap (option_and_then (λ k. option_and_then (λ front. up_to (codes "/") setting front.0 front.1) (begun k others))) k.1
+    ∙ ap (option_and_then (λ (front : Action × List (List ℕ)). up_to (codes "/") setting front.0 front.1)) (unshared k.0 begins.0 others begins.1)
+    ∙ up_to-read (codes "/") setting setting_words action_with some_words setting-read setting-begins settings begins.0 a rest begins.2
+action-read (Shared id) a rest is =
+    let n = on_map (number_of_bits 16 id) actions.Indirect a is in
+    let others = codes "/" ∷ rest in
+    ap (λ o. option_and_then (λ (front : Action × List (List ℕ)). up_to (codes "/") setting front.0 front.1)
+    (option_map {T = ℕ × List (List ℕ)} (λ read. (actions.Indirect read.0, read.1)) (option_map (λ n. (n, others)) o))) n.1
+    ∙ ap (λ b. Some (b, rest)) n.2
+
+-- nothing stands inside an action that rules share
+inside-shared : (n : ℕ) (a : Action) (settings : List WrittenSetting) → made_by action_with (actions.Indirect n) settings ≡ Some a → (settings ≡ []) × (actions.Indirect n ≡ a)
+inside-shared n a [] is = (refl, cc)
+inside-shared n a (Value name value ∷ settings) is = absurd cc
+inside-shared n a (Listed name listed ∷ settings) is = absurd cc
+
+-- an action of a kind, from what follows its word
+only-of : (k : ActionKind) (word : List ℕ) (others : List (List ℕ)) (begins a : Action) (inside rest : List (List ℕ)) → meaning_of words word ≡ Some k
+    → begun k others ≡ Some (begins, inside) → (settings : List WrittenSetting) → inside ≡ words_up_to (codes "/") setting_words settings ++ rest
+    → made_by action_with begins settings ≡ Some a
+    → (w : WrittenAction) × (word ∷ others ≡ action_words w ++ rest) × (action_said w ≡ Some a)
+only-of kinds.Indirect word [] begins a inside rest is front settings written made = absurd cc
+only-of kinds.Indirect word (id ∷ others) begins a inside rest is front settings written made =
+    let read = on_map (option_map (λ n. (n, others)) (number_of_bits 16 id)) (λ (read : ℕ × List (List ℕ)). (actions.Indirect read.0, read.1)) (begins, inside) front in
+    let n = on_map (number_of_bits 16 id) (λ n. (n, others)) read.0 read.1 in
+    let begun_with : actions.Indirect n.0 ≡ begins = ap (λ (r : ℕ × List (List ℕ)). actions.Indirect r.0) n.2 ∙ ap (λ (p : Action × List (List ℕ)). p.0) read.2 in
+    let behind : others ≡ inside = ap (λ (r : ℕ × List (List ℕ)). r.1) n.2 ∙ ap (λ (p : Action × List (List ℕ)). p.1) read.2 in
+    let none = inside-shared n.0 a settings (ap (λ b. made_by action_with b settings) begun_with ∙ made) in (
+      Shared id,
+      ap (λ w. w ∷ id ∷ others) (indirect-word word is)
+          ∙ ap (λ ws. codes "indirect" ∷ id ∷ ws) (behind ∙ written ∙ ap (λ s. words_up_to (codes "/") setting_words s ++ rest) none.0),
+      ap (option_map actions.Indirect) n.1 ∙ ap (λ b. Some b) none.1,
     )
+only-of k word others begins a inside rest is front settings written made =
+    let same : ◌≡◌ {A = Action × List (List ℕ)} (with_value k 0, others) (begins, inside) = cc in (
+      Named word settings,
+      ap (λ ws. word ∷ ws) (ap (λ (p : Action × List (List ℕ)). p.1) same ∙ written),
+      ap (option_and_then (λ k. option_and_then (λ b. made_by action_with b settings) (action_of_kind k))) is
+          ∙ ap (λ (p : Action × List (List ℕ)). made_by action_with p.0 settings) same ∙ made,
+    )
+
+pub action-only : (a : Action) (given rest : List (List ℕ)) → action_of given ≡ Some (a, rest) → (w : WrittenAction) × (given ≡ action_words w ++ rest) × (action_said w ≡ Some a)
+action-only a [] rest is = absurd cc
+action-only a (word ∷ others) rest is =
+    let k = on_some (meaning_of words word) (λ k. option_and_then (λ front. up_to (codes "/") setting front.0 front.1) (begun k others)) (a, rest) is in
+    let front = on_some (begun k.0 others) (λ (front : Action × List (List ℕ)). up_to (codes "/") setting front.0 front.1) (a, rest) k.2 in
+    let settings = turns-only (codes "/") setting setting_words action_with setting-only front.0.1 front.0.0 a front.0.1 rest front.2 in
+    only-of k.0 word others front.0.0 a front.0.1 rest k.1 front.1 settings.0 settings.1 settings.2
+
+-- one more action
+one-read : (a b : Actions) (w : WrittenAction) (rest : List (List ℕ)) → actions_with a w ≡ Some b → action_behind a (action_words w ++ rest) ≡ Some (b, rest)
+one-read a b w rest is =
+    let said = on_map (action_said w) (with_action a) b is in
+    ap (option_map (λ (read : Action × List (List ℕ)). (with_action a read.0, read.1))) (action-read w said.0 rest said.1) ∙ ap (λ p. Some (p, rest)) said.2
+
+one-begins : (a b : Actions) (w : WrittenAction) → actions_with a w ≡ Some b → (word : List ℕ) × (others : List (List ℕ)) × (action_words w ≡ word ∷ others) × (bytes_eq word (codes "end") ≡ false)
+one-begins a b (Named word settings) is =
+    let said = on_map (action_said (Named word settings)) (with_action a) b is in
+    let k = on_some (meaning_of words word) (λ k. option_and_then (λ a. made_by action_with a settings) (action_of_kind k)) said.0 said.1 in
+    (word, words_up_to (codes "/") setting_words settings, refl, end-action k.0 word k.1)
+one-begins a b (Shared id) is = (codes "indirect", id ∷ codes "/" ∷ [], refl, refl)
+
+one-only : (a b : Actions) (given rest : List (List ℕ)) → action_behind a given ≡ Some (b, rest) → (w : WrittenAction) × (given ≡ action_words w ++ rest) × (actions_with a w ≡ Some b)
+one-only a b given rest is =
+    let read = on_map (action_of given) (λ (read : Action × List (List ℕ)). (with_action a read.0, read.1)) (b, rest) is in
+    let w = action-only read.0.0 given read.0.1 read.1 in (
+      w.0,
+      w.1 ∙ ap (λ (p : Actions × List (List ℕ)). action_words w.0 ++ p.1) read.2,
+      ap (option_map (with_action a)) w.2 ∙ ap (λ (p : Actions × List (List ℕ)). Some p.0) read.2,
+    )
+
+some_action_words : (w : WrittenAction) → 1 ≤ length (action_words w)
+some_action_words (Named word settings) = omega arith
+some_action_words (Shared id) = omega arith
 
 -- actions, and their `end`
 pub actions-read : (actions : List WrittenAction) (a b : Actions) (rest : List (List ℕ)) → made_by actions_with a actions ≡ Some b
     → up_to (codes "end") action_behind a (words_up_to (codes "end") action_words actions ++ rest) ≡ Some (b, rest)
-actions-read actions a b rest is = up_to-read (codes "end") action_behind action_words actions_with (λ w. omega arith) action-read action-begins actions a b rest is
+actions-read actions a b rest is = up_to-read (codes "end") action_behind action_words actions_with some_action_words one-read one-begins actions a b rest is
 
 pub actions-only : (a b : Actions) (given rest : List (List ℕ)) → up_to (codes "end") action_behind a given ≡ Some (b, rest)
     → (actions : List WrittenAction) × (given ≡ words_up_to (codes "end") action_words actions ++ rest) × (made_by actions_with a actions ≡ Some b)
-actions-only a b given rest is = turns-only (codes "end") action_behind action_words actions_with action-only given a b given rest is
+actions-only a b given rest is = turns-only (codes "end") action_behind action_words actions_with one-only given a b given rest is

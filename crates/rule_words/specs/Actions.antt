@@ -1,5 +1,5 @@
 -- The actions of a rule: `{ ACTION "/" } "end"`, where an action is a word, and inside some actions stand values, each
--- behind its word, or lists.
+-- behind its word, or lists. An action that rules share has its id right behind its word: `"indirect" ID`.
 use Rattle.std.specs.Prelude.{ℕ, ◌+◌, ◌-◌, ◌<◌, ◌^◌, min, nat_lt, IfSome, List, [], ◌∷◌, ◌++◌, length, codes, bytes_eq, Option, None, Some, option_map, if◌then◌else◌}
 use Rattle.packet_headers.specs.declared.edits.Edit.TheVariants as edits
 use Rattle.flow_actions.specs.Kinds.{kind_of}
@@ -12,6 +12,7 @@ use Rattle.rule_words.specs.Vocabulary.{meaning_of}
 use Rattle.rule_words.specs.declared.address.Address.TheVariants as address
 use Rattle.rule_words.specs.declared.value.Form.{Form}
 use Rattle.rule_words.specs.declared.value.Form.TheVariants as forms
+use Rattle.rule_words.specs.Number.{first_number}
 use Rattle.rule_words.specs.Value.{width_of, value_of}
 use Rattle.rule_words.specs.Turns.{◌>>=◌, up_to}
 use Rattle.rule_words.specs.RssLists.{no_lists, rss_setting}
@@ -25,6 +26,8 @@ words =
     ∷ (codes "drop", kinds.Drop)
     ∷ (codes "jump", kinds.Jump)
     ∷ (codes "mark", kinds.Mark)
+    ∷ (codes "count", kinds.Count)
+    ∷ (codes "indirect", kinds.Indirect)
     ∷ (codes "set_mac_src", kinds.MacSrc)
     ∷ (codes "set_mac_dst", kinds.MacDst)
     ∷ (codes "set_ipv4_src", kinds.Ipv4Src)
@@ -46,6 +49,8 @@ value_row kinds.Rss = None
 value_row kinds.Drop = None
 value_row kinds.Jump = Some (codes "group", forms.Number 32)
 value_row kinds.Mark = Some (codes "id", forms.Number 32)
+value_row kinds.Count = None
+value_row kinds.Indirect = None
 value_row kinds.MacSrc = Some (codes "mac_addr", forms.Address address.Mac)
 value_row kinds.MacDst = Some (codes "mac_addr", forms.Address address.Mac)
 value_row kinds.Ipv4Src = Some (codes "ipv4_addr", forms.Address address.Ip4)
@@ -66,6 +71,8 @@ with_value kinds.Rss value = actions.Rss no_lists
 with_value kinds.Drop value = actions.Drop
 with_value kinds.Jump value = actions.Jump value
 with_value kinds.Mark value = actions.Mark value
+with_value kinds.Count value = actions.Count
+with_value kinds.Indirect value = actions.Indirect value
 with_value kinds.MacSrc value = actions.Set (edits.MacSrc value)
 with_value kinds.MacDst value = actions.Set (edits.MacDst value)
 with_value kinds.Ipv4Src value = actions.Set (edits.Ipv4Src value)
@@ -78,8 +85,9 @@ with_value kinds.DecTtl value = actions.Set edits.DecTtl
 with_value kinds.SetTtl value = actions.Set (edits.SetTtl value)
 with_value kinds.SetVid value = actions.Set (edits.SetVid value)
 
--- the value of an action of a kind has no more bits than its form
+-- the value of an action of a kind has no more bits than its form, and an id 16
 abbrev pub FitsIn : ActionKind → ℕ → Type 0
+FitsIn kinds.Indirect value = value < 2 ^ 16
 FitsIn kind value = IfSome (value_row kind) (λ row. value < 2 ^ width_of row.1)
 
 -- the action of a kind with the value that a word is, behind the word in front of it
@@ -107,11 +115,24 @@ with_action actions a =
     then record actions { list = record { items = actions.list.items ++ a ∷ [] } }
     else record actions { more = min (actions.more + 1) (2 ^ 16 - 1) }
 
--- ACTION "/"; what isn't named is 0
+-- the action of a kind before anything inside it is read, and the words behind: an action that rules share has its id
+-- there, and in the others what isn't named is 0
+abbrev pub begun : ActionKind → List (List ℕ) → Option (Action × List (List ℕ))
+begun kinds.Indirect rest = option_map (λ id. (with_value kinds.Indirect id.0, id.1)) (first_number 16 rest)
+begun kind rest = Some (with_value kind 0, rest)
+
+-- what stands behind the word of an action of a kind, up to its `/`
+abbrev pub action_behind_word : ActionKind → List (List ℕ) → Option (Action × List (List ℕ))
+action_behind_word kind rest = begun kind rest >>= λ front. up_to (codes "/") setting front.0 front.1
+
+-- ACTION "/"
+abbrev pub action_of : List (List ℕ) → Option (Action × List (List ℕ))
+action_of [] = None
+action_of (word ∷ rest) = meaning_of words word >>= λ kind. action_behind_word kind rest
+
+-- one more action
 abbrev pub action_behind : Actions → List (List ℕ) → Option (Actions × List (List ℕ))
-action_behind so_far [] = None
-action_behind so_far (word ∷ rest) =
-    meaning_of words word >>= λ kind. option_map (λ read. (with_action so_far read.0, read.1)) (up_to (codes "/") setting (with_value kind 0) rest)
+action_behind so_far rest = option_map (λ read. (with_action so_far read.0, read.1)) (action_of rest)
 
 -- the actions that words make up to `end`, behind those so far, and the words behind it
 abbrev pub actions_of : List (List ℕ) → Option (Actions × List (List ℕ))

@@ -1,5 +1,5 @@
 -- Lists of ids: `WORD ID { WORD ID }`, with one word in front of each.
-use Rattle.std.specs.Prelude.{ℕ, ◌&&◌, nat_le, List, [], ◌∷◌, length, bytes_eq, Option, None, Some, option_map, if◌then◌else◌}
+use Rattle.std.specs.Prelude.{ℕ, ◌<◌, ◌&&◌, nat_le, List, [], ◌∷◌, length, bytes_eq, Option, None, Some, option_map, if◌then◌else◌}
 use Rattle.rule_words.specs.Number.{number_of_bits}
 use Rattle.rule_words.specs.declared.ids.Front.{Front}
 use Rattle.rule_words.specs.declared.ids.Front.TheVariants as fronts
@@ -18,6 +18,11 @@ ids_in_front name bits (word ∷ value ∷ rest) =
 abbrev pub ids_of : List ℕ → ℕ → ℕ → List (List ℕ) → Option (List ℕ × List (List ℕ))
 ids_of name bits most words =
     ids_in_front name bits words >>= λ read. if nat_le 1 (length read.0) && nat_le (length read.0) most then Some read else None
+
+-- each is below the limit
+abbrev pub AreBelow : ℕ → List ℕ → Type 0
+AreBelow limit [] = Unit
+AreBelow limit (n ∷ ns) = (n < limit) × AreBelow limit ns
 
 -- what stands in front, with what the words behind two say
 abbrev pub with_front : Front → List (List ℕ) → Option (List ℕ × List (List ℕ)) → Option (List ℕ × List (List ℕ))

@@ -3,6 +3,8 @@ use Rattle.std.specs.Prelude.{ℕ, true, List, [], ◌∷◌, ◌++◌, codes, b
 use Rattle.flow_actions.specs.Kinds.{kind_of}
 use Rattle.flow_actions.specs.declared.action.Action.{Action}
 use Rattle.flow_actions.specs.declared.action.Action.TheVariants as actions
+use Rattle.flow_actions.specs.declared.action.ActionKind.{ActionKind}
+use Rattle.flow_actions.specs.declared.action.ActionKind.TheVariants as kind
 use Rattle.flow_actions.specs.declared.action.Actions.{Actions}
 use Rattle.flow_actions.specs.declared.rss.Rss.{Rss}
 use Rattle.flow_rules.specs.declared.spec.Attr.{Attr}
@@ -48,6 +50,12 @@ attr_with attr (Priority number) = option_map (λ n. record attr { priority = n 
 attr_with attr Ingress = Some (record attr { ingress = true })
 attr_with attr Egress = Some (record attr { egress = true })
 attr_with attr Transfer = Some (record attr { transfer = true })
+
+-- the same where directions stand alone
+abbrev pub direction_with : Attr → WrittenAttr → Option Attr
+direction_with attr (Group number) = None
+direction_with attr (Priority number) = None
+direction_with attr written = attr_with attr written
 
 -- FIELD REL VALUE
 pub record WrittenField : Type 0 where
@@ -95,16 +103,26 @@ action_with a (Value name value) = with_word (kind_of a) name value
 action_with (actions.Rss rss) (Listed name listed) = option_map actions.Rss (meaning_of list_words name >>= list_with rss listed)
 action_with a (Listed name listed) = None
 
--- ACTION "/"
-pub record WrittenAction : Type 0 where
-  pub word : List ℕ
-  pub settings : List WrittenSetting
+-- ACTION "/": a word with what stands inside, or "indirect" ID
+pub data WrittenAction : Type 0 where
+  Named : List ℕ → List WrittenSetting → WrittenAction
+  Shared : List ℕ → WrittenAction
 
 abbrev pub action_words : WrittenAction → List (List ℕ)
-action_words a = a.word ∷ words_up_to (codes "/") setting_words a.settings
+action_words (Named word settings) = word ∷ words_up_to (codes "/") setting_words settings
+action_words (Shared id) = codes "indirect" ∷ id ∷ codes "/" ∷ []
+
+-- the action of a kind that is named by its word alone: one that rules share isn't
+abbrev pub action_of_kind : ActionKind → Option Action
+action_of_kind kind.Indirect = None
+action_of_kind k = Some (with_value k 0)
+
+abbrev pub action_said : WrittenAction → Option Action
+action_said (Named word settings) = meaning_of words word >>= λ k. action_of_kind k >>= λ a. made_by action_with a settings
+action_said (Shared id) = option_map actions.Indirect (number_of_bits 16 id)
 
 abbrev pub actions_with : Actions → WrittenAction → Option Actions
-actions_with so_far a = meaning_of words a.word >>= λ kind. option_map (with_action so_far) (made_by action_with (with_value kind 0) a.settings)
+actions_with so_far a = option_map (with_action so_far) (action_said a)
 
 -- ids, each behind one word
 abbrev pub id_words : List ℕ → List (List ℕ) → List (List ℕ)

@@ -7,6 +7,7 @@ ghost use Rattle.rule_words.specs.Value.{width_of};
 ghost use Rattle.rule_words.specs.Vocabulary.{meaning_of};
 
 use crate::address::Address;
+use crate::number::number_in_front;
 use crate::rss_lists::no_lists;
 use crate::turns::{TurnReader, behind, read_up_to};
 use crate::value::{Form, read_value};
@@ -15,13 +16,15 @@ use arrayvec::ArrayVec;
 use flow_actions::{Action, ActionKind, Actions};
 use packet_headers::Edit;
 
-static WORDS: [(&str, ActionKind); 17] = [
+static WORDS: [(&str, ActionKind); 19] = [
     ("void", ActionKind::Void),
     ("queue", ActionKind::Queue),
     ("rss", ActionKind::Rss),
     ("drop", ActionKind::Drop),
     ("jump", ActionKind::Jump),
     ("mark", ActionKind::Mark),
+    ("count", ActionKind::Count),
+    ("indirect", ActionKind::Indirect),
     ("set_mac_src", ActionKind::MacSrc),
     ("set_mac_dst", ActionKind::MacDst),
     ("set_ipv4_src", ActionKind::Ipv4Src),
@@ -54,6 +57,8 @@ fn value_row(kind: ActionKind) -> Option<(&'static [u8], Form)>
         ActionKind::Drop => None,
         ActionKind::Jump => Some((b"group", Form::Number(32))),
         ActionKind::Mark => Some((b"id", Form::Number(32))),
+        ActionKind::Count => None,
+        ActionKind::Indirect => None,
         ActionKind::MacSrc => Some((b"mac_addr", Form::Address(Address::Mac))),
         ActionKind::MacDst => Some((b"mac_addr", Form::Address(Address::Mac))),
         ActionKind::Ipv4Src => Some((b"ipv4_addr", Form::Address(Address::Ip4))),
@@ -80,6 +85,8 @@ fn with_value(kind: ActionKind, value: u128) -> Action
         ActionKind::Drop => Action::Drop,
         ActionKind::Jump => Action::Jump(value as u32),
         ActionKind::Mark => Action::Mark(value as u32),
+        ActionKind::Count => Action::Count,
+        ActionKind::Indirect => Action::Indirect(value as u32),
         ActionKind::MacSrc => Action::Set(Edit::MacSrc(value as u64)),
         ActionKind::MacDst => Action::Set(Edit::MacDst(value as u64)),
         ActionKind::Ipv4Src => Action::Set(Edit::Ipv4Src(value as u32)),
@@ -139,19 +146,58 @@ impl TurnReader for Actions {
 
     /// An action and its `/`.
     fn take_turn(&mut self, words: &[&[u8]]) -> Option<usize> {
-        let Some((word, rest)) = words.split_first() else {
-            return None;
-        };
-        let Some(kind) = begun_by(word) else {
-            return None;
-        };
-        let mut action = with_value(kind, 0);
-        let Some(taken) = read_up_to(b"/", &mut action, rest) else {
+        let Some((action, taken)) = take_action(words) else {
             return None;
         };
         add_action(self, action);
-        Some(1 + taken)
+        Some(taken)
     }
+}
+
+/// The action of a kind before anything inside it is read, and how many words it has behind its own: one that rules
+/// share has its id there.
+fn begin(kind: ActionKind, words: &[&[u8]]) -> Option<(Action, usize)>
+    ensures value { option_map (λ begun. (begun.0, drop begun.1 (map (λ word. word.now) words.now))) result
+        ≡ spec.begun kind (map (λ word. word.now) words.now) }
+    ensures few { IfSome result (λ begun. begun.1 ≤ length words.now) }
+{
+    if let ActionKind::Indirect = kind {
+        let id = number_in_front(16, words)?;
+        return Some((with_value(kind, id), 1));
+    }
+    Some((with_value(kind, 0), 0))
+}
+
+/// An action up to its `/`, and how many words that is.
+fn take_action(words: &[&[u8]]) -> Option<(Action, usize)>
+    ensures value { option_map (λ taken. (taken.0, drop taken.1 (map (λ word. word.now) words.now))) result
+        ≡ spec.action_of (map (λ word. word.now) words.now) }
+    ensures few { IfSome result (λ taken. taken.1 ≤ length words.now) }
+{
+    let (word, rest) = words.split_first()?;
+    let kind = begun_by(word)?;
+    let (action, taken) = take_behind_word(kind, rest)?;
+    Some((action, 1 + taken))
+}
+
+/// What stands behind the word of an action of a kind, up to its `/`, and how many words that is.
+fn take_behind_word(kind: ActionKind, words: &[&[u8]]) -> Option<(Action, usize)>
+    ensures value { option_map (λ taken. (taken.0, drop taken.1 (map (λ word. word.now) words.now))) result
+        ≡ spec.action_behind_word kind (map (λ word. word.now) words.now) }
+    ensures few { IfSome result (λ taken. taken.1 ≤ length words.now) }
+{
+    let (mut action, at) = begin(kind, words)?;
+    let taken = read_up_to(b"/", &mut action, behind(at, words))?;
+    Some((action, at + taken))
+}
+
+/// Reads one action up to its `/`, and gives the words behind it.
+pub fn read_action<'w, 'a>(words: &'w [&'a [u8]]) -> Option<(Action, &'w [&'a [u8]])>
+    ensures { option_map (λ read. (read.0, map (λ word. word.now) read.1.now)) result
+        ≡ spec.action_of (map (λ word. word.now) words.entry.now) }
+{
+    let (action, taken) = take_action(words)?;
+    Some((action, behind(taken, words)))
 }
 
 /// Reads actions up to `end`, and gives the words behind it.

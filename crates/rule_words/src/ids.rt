@@ -1,6 +1,6 @@
 //! Lists of ids.
-ghost use Rattle.std.specs.Prelude.{◌≡◌, ◌≤◌, drop, length, map, option_map};
-ghost use Rattle.rule_words.specs.Ids.{ids_in_front, ids_of, with_front, IsId};
+ghost use Rattle.std.specs.Prelude.{◌≡◌, ◌≤◌, ◌^◌, IfSome, drop, length, map, option_map};
+ghost use Rattle.rule_words.specs.Ids.{ids_in_front, ids_of, with_front, IsId, AreBelow};
 
 use crate::number::number_of_bits;
 use crate::turns::behind;
@@ -59,8 +59,9 @@ pub fn read_ids<'w, 'a>(
 ) -> Option<(IdList, &'w [&'a [u8]])>
     requires narrow { bits ≤ 32 }
     requires few { most ≤ MAX_IDS }
-    ensures { option_map (λ read. (read.0.items, map (λ word. word.now) read.1.now)) result
+    ensures value { option_map (λ read. (read.0.items, map (λ word. word.now) read.1.now)) result
         ≡ ids_of name.now bits most (map (λ word. word.now) words.entry.now) }
+    ensures small { IfSome result (λ read. AreBelow (2 ^ bits) read.0.items) }
 {
     let mut ids: IdList = ArrayVec::new();
     let mut at = 0;

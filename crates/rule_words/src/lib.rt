@@ -7,15 +7,17 @@
 //! ```
 //!
 //! Each reader takes one of these lists from the front of some words and gives what it says, with the words behind it:
-//! [`read_attributes`] up to a word that the caller names, [`read_items`] and [`read_actions`] up to their `end`, and
-//! [`read_ids`] ids that stand behind one word each. Where the words don't fit, or a value is wider than its field, there
+//! [`read_attributes`] up to a word that the caller names, and [`read_directions`] where no group and no priority may stand,
+//! [`read_items`] and [`read_actions`] up to their `end`, [`read_action`] one action up to its `/`, and [`read_ids`] ids that
+//! stand behind one word each. Where the words don't fit, or a value is wider than its field, there
 //! is none. [`first_number`] reads one number, [`flag_and_rest`] one word that switches something on or off, and
 //! [`meaning`] looks a word up in a table.
 //!
 //! - A number is `0`, decimal digits without a leading zero, or `0x` and hexadecimal digits in either case.
 //! - A value of an item is a number of its field's width, or an address as RFC 4291 and the field's kind have them. The
 //!   words of fields and their widths are those of the field table in `packet_headers`.
-//! - A later word on one thing replaces an earlier one, and what isn't named is 0.
+//! - A later word on one thing replaces an earlier one, and what isn't named is 0. `indirect` alone needs its id, right
+//!   behind it.
 //!
 //! The model: words are lists of bytes. A list is read turn by turn up to its ending word, and a turn is a definition by
 //! cases on words: what the first of them say, and what is left. `specs/Turns` says how turns make a list, and it is the
@@ -46,8 +48,8 @@ mod value;
 mod vocabulary;
 mod written;
 
-pub use actions::read_actions;
-pub use attributes::read_attributes;
+pub use actions::{read_action, read_actions};
+pub use attributes::{read_attributes, read_directions};
 pub use flags::flag_and_rest;
 pub use ids::{IdList, MAX_IDS, read_ids};
 pub use items::read_items;

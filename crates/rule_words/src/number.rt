@@ -1,5 +1,5 @@
 //! The numbers of the grammar.
-ghost use Rattle.std.specs.Prelude.{◌≡◌, ◌+◌, ◌-◌, ◌*◌, ◌<◌, ◌≤◌, ◌^◌, IfSome, map, option_map};
+ghost use Rattle.std.specs.Prelude.{◌≡◌, ◌+◌, ◌-◌, ◌*◌, ◌<◌, ◌≤◌, ◌^◌, IfSome, drop, length, map, option_map};
 ghost use Rattle.rule_words.specs.Number as spec;
 ghost use Rattle.rule_words.specs.Number.{number_of, number_in, decimal_number, below};
 
@@ -81,4 +81,16 @@ pub fn first_number<'w, 'a>(bits: u8, words: &'w [&'a [u8]]) -> Option<(u128, &'
     let (word, rest) = words.split_first()?;
     let number = number_of_bits(bits, word)?;
     Some((number, rest))
+}
+
+/// The number of so many bits that the first word is.
+pub(crate) fn number_in_front(bits: u8, words: &[&[u8]]) -> Option<u128>
+    requires { bits ≤ 128 }
+    ensures value { option_map (λ number. (number, drop 1 (map (λ word. word.now) words.now))) result
+        ≡ spec.first_number bits (map (λ word. word.now) words.now) }
+    ensures small { IfSome result (λ number. number < 2 ^ bits) }
+    ensures there { IfSome result (λ _. 1 ≤ length words.now) }
+{
+    let word = words.first()?;
+    number_of_bits(bits, word)
 }

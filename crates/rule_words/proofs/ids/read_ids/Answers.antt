@@ -4,10 +4,11 @@ use Rattle.std.proofs.lemmas.List.{drop-drop}
 use Rattle.rule_words.specs.Ids.{ids_in_front}
 use Rattle.rule_words.proofs.TurnSteps.{map-rest}
 use Rattle.rule_words.proofs.IdSteps.{joined, with_id, joined-push, ids-many, ids-bad, ids-ended, ids-empty}
+use Rattle.rule_words.proofs.IdBounds.{ids-below}
 use Rattle.rule_words.proofs.ids.read_ids.Goals as goal
 
-pub returns-then-len-most : goal.returns-then-len-most
-returns-then-len-most c =
+pub returns-then-len-most-clause-value : goal.returns-then-len-most-clause-value
+returns-then-len-most-clause-value c =
     let text = λ (w : Bor (List ℕ)). w.now in
     let name = c.args.name.now in
     let bits = c.args.bits in
@@ -17,8 +18,8 @@ returns-then-len-most c =
     ids-many name bits c.args.most words c.loop.ids.items c.in-Id.id (ids_in_front name bits (drop 2 (drop c.loop.at words)))
     (ap (joined c.loop.ids.items) (sym front) ∙ c.loop.invariant.same) (omega (arith, c.len.ensures.value, c.if-len-most.true))
 
-pub returns-then-len-eq0 : goal.returns-then-len-eq0
-returns-then-len-eq0 c =
+pub returns-then-len-eq0-clause-value : goal.returns-then-len-eq0-clause-value
+returns-then-len-eq0-clause-value c =
     let text = λ (w : Bor (List ℕ)). w.now in
     let words = map text c.args.words.now in
     let front : ids_in_front c.args.name.now c.args.bits (drop c.loop.at words) ≡ Some ([], drop c.loop.at words) =
@@ -26,8 +27,8 @@ returns-then-len-eq0 c =
     ids-empty c.args.name.now c.args.bits c.args.most words (drop c.loop.at words) c.loop.ids.items (ids_in_front c.args.name.now c.args.bits (drop c.loop.at words))
     c.loop.invariant.same front (omega arith)
 
-pub returns-in-Other : goal.returns-in-Other
-returns-in-Other c =
+pub returns-in-Other-clause-value : goal.returns-in-Other-clause-value
+returns-in-Other-clause-value c =
     let text = λ (w : Bor (List ℕ)). w.now in
     let words = map text c.args.words.now in
     let front : ids_in_front c.args.name.now c.args.bits (drop c.loop.at words) ≡ Some ([], drop c.loop.at words) =
@@ -36,8 +37,13 @@ returns-in-Other c =
     ∙ ids-ended c.args.name.now c.args.bits c.args.most words (drop c.loop.at words) c.loop.ids.items (ids_in_front c.args.name.now c.args.bits (drop c.loop.at words))
     c.loop.invariant.same front (omega arith) c.loop.invariant.few
 
-pub returns-in-Bad : goal.returns-in-Bad
-returns-in-Bad c =
+pub returns-in-Other-clause-small : goal.returns-in-Other-clause-small
+returns-in-Other-clause-small c =
+    ids-below c.args.name.now c.args.bits c.args.most (map (λ (w : Bor (List ℕ)). w.now) c.args.words.now) c.loop.ids.items
+    (map (λ (w : Bor (List ℕ)). w.now) c.behind.result.now) (returns-in-Other-clause-value c)
+
+pub returns-in-Bad-clause-value : goal.returns-in-Bad-clause-value
+returns-in-Bad-clause-value c =
     let text = λ (w : Bor (List ℕ)). w.now in
     let words = map text c.args.words.now in
     let front : ids_in_front c.args.name.now c.args.bits (drop c.loop.at words) ≡ None =
