@@ -1,5 +1,5 @@
 -- The forms of a line: its first word names a command, and a flow line's verb what it asks.
-use Rattle.std.specs.Prelude.{ℕ, ◌==◌, ◌&&◌, nat_le, List, [], ◌∷◌, map, codes, Option, None, Some, option_map, if◌then◌else◌}
+use Rattle.std.specs.Prelude.{ℕ, ◌==◌, ◌&&◌, nat_le, List, [], ◌∷◌, codes, Option, None, Some, option_map, if◌then◌else◌}
 use Rattle.adapter.specs.declared.call.Op.{Op}
 use Rattle.adapter.specs.declared.call.Op.TheVariants as ops
 use Rattle.adapter.specs.declared.call.BadKind.TheVariants as kinds
@@ -12,14 +12,16 @@ use Rattle.rule_words.specs.Attributes.{attributes_of}
 use Rattle.rule_words.specs.Items.{items_of}
 use Rattle.rule_words.specs.Actions.{actions_of}
 use Rattle.rule_words.specs.Flags.{flag_and_rest}
-use Rattle.rule_words.specs.Ids.{ids_of}
 use Rattle.flow_grammar.specs.declared.line.Line.{Line}
 use Rattle.flow_grammar.specs.declared.line.Line.TheVariants as lines
 use Rattle.flow_grammar.specs.declared.forms.Command.{Command}
 use Rattle.flow_grammar.specs.declared.forms.Command.TheVariants as command
 use Rattle.flow_grammar.specs.declared.verbs.Verb.{Verb}
 use Rattle.flow_grammar.specs.declared.verbs.Verb.TheVariants as verb
+use Rattle.flow_grammar.specs.declared.destroys.Object.TheVariants as objects
 use Rattle.flow_grammar.specs.Words.{behind, at_end}
+use Rattle.flow_grammar.specs.Destroys.{destroys_of}
+use Rattle.flow_grammar.specs.IndirectActions.{indirect_asked}
 
 -- the actions of words that end with them
 unfoldable pub last_actions_of : List (List ℕ) → Option Actions
@@ -34,9 +36,12 @@ rule_of words = do
   actions ← last_actions_of rest
   Some (record { attr = attr.0; pattern = pattern.0; actions = actions })
 
--- `rule RULE { rule RULE }`, at most 64 of them: a call for each
-unfoldable pub destroys_of : List (List ℕ) → Option (List Op)
-destroys_of words = ids_of (codes "rule") 32 64 words >>= λ ids. at_end ids.1 (map ops.Destroy ids.0)
+-- `RULE count`
+unfoldable pub query_of : List (List ℕ) → Option Op
+query_of words = do
+  id ← first_number 32 words
+  rest ← behind (codes "count") id.1
+  at_end rest (ops.Query id.0)
 
 -- `BOOL`
 unfoldable pub switch_of : List (List ℕ) → Option Op
@@ -51,16 +56,20 @@ verbs =
     ∷ (codes "flush", verb.Flush)
     ∷ (codes "list", verb.List)
     ∷ (codes "isolate", verb.Isolate)
+    ∷ (codes "query", verb.Query)
+    ∷ (codes "indirect_action", verb.IndirectAction)
     ∷ []
 
 -- what the words behind `flow VERB PORT` ask
 abbrev pub asked : Verb → List (List ℕ) → Option (List Op)
 asked verb.Validate words = option_map (λ rule. ops.Validate rule ∷ []) (rule_of words)
 asked verb.Create words = option_map (λ rule. ops.Create rule ∷ []) (rule_of words)
-asked verb.Destroy words = destroys_of words
+asked verb.Destroy words = destroys_of objects.Rule words
 asked verb.Flush words = at_end words (ops.Flush ∷ [])
 asked verb.List words = at_end words (ops.List ∷ [])
 asked verb.Isolate words = option_map (λ op. op ∷ []) (switch_of words)
+asked verb.Query words = option_map (λ op. op ∷ []) (query_of words)
+asked verb.IndirectAction words = indirect_asked words
 
 -- a flow line asks on port 0, the only one
 abbrev pub on_port : ℕ → List Op → Line

@@ -1,5 +1,7 @@
+pub mod Destroys
 pub mod Draft
 pub mod Forms
+pub mod IndirectActions
 pub mod Limits
 pub mod Line
 pub mod Lines

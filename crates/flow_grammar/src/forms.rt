@@ -1,13 +1,13 @@
 //! The forms of a line.
 ghost use Rattle.std.specs.Prelude.{◌≡◌, IfOk, map, option_map};
 ghost use Rattle.flow_grammar.specs.Forms as spec;
-ghost use Rattle.flow_grammar.specs.Words.{at_end};
 ghost use Rattle.rule_words.specs.Number.{first_number};
 ghost use Rattle.rule_words.specs.Vocabulary.{meaning_of};
 
 use crate::line::Line;
 use crate::op_list::OpList;
 use crate::verbs::{read_ops, verb_of};
+use crate::words::if_last;
 use adapter::BadKind;
 use rule_words::{first_number, meaning};
 use std::alloc::{AllocError, Global};
@@ -58,16 +58,6 @@ pub(crate) fn read_command(
         Command::Stop => Ok(if_last(words, Line::Stop)),
         Command::Quit => Ok(if_last(words, Line::Quit)),
     }
-}
-
-/// What a line says that has no word but its command.
-fn if_last(words: &[&[u8]], said: Line) -> Option<Line>
-    ensures { result ≡ at_end (map (λ word. word.now) words.now) said }
-{
-    if !words.is_empty() {
-        return None;
-    }
-    Some(said)
 }
 
 /// `NUMBER`.

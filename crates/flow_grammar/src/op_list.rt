@@ -1,5 +1,5 @@
 //! What one line asks for.
-ghost use Rattle.std.specs.Prelude.{◌≡◌, ◌<◌, ◌≤◌, List, [], ◌∷◌, ◌++◌, length, slice_get, IfOk, OnOk};
+ghost use Rattle.std.specs.Prelude.{◌≡◌, ◌<◌, ◌≤◌, List, [], ◌∷◌, ◌++◌, length, slice_get, option_map, IfOk, OnOk};
 
 use adapter::Op;
 use std::alloc::{AllocError, Global};
@@ -41,15 +41,6 @@ impl OpList {
         Ok(())
     }
 
-    /// The list of one op.
-    pub(crate) fn single(alloc: Global, op: Op) -> Result<OpList, AllocError>
-        ensures { IfOk result (λ list. list ≡ op ∷ []) }
-    {
-        let mut ops = Vec::new(alloc);
-        ops.push(op)?;
-        Ok(OpList { ops })
-    }
-
     /// How many ops there are.
     pub fn len(&self) -> usize
         ensures value { result ≡ length self.now }
@@ -82,4 +73,16 @@ impl OpList {
     {
         self.ops.as_slice()
     }
+}
+
+/// The list of one op, where there is one.
+pub(crate) fn one_op(alloc: Global, op: Option<Op>) -> Result<Option<OpList>, AllocError>
+    ensures { IfOk result (λ list. list ≡ option_map (λ op. op ∷ []) op) }
+{
+    let Some(op) = op else {
+        return Ok(None);
+    };
+    let mut list = OpList::new(alloc);
+    list.push(op)?;
+    Ok(Some(list))
 }

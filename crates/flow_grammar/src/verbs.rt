@@ -1,17 +1,16 @@
 //! The verbs of flow lines.
-ghost use Rattle.std.specs.Prelude.{◌≡◌, [], ◌∷◌, IfOk, map, option_map};
+ghost use Rattle.std.specs.Prelude.{◌≡◌, IfOk, map};
 ghost use Rattle.flow_grammar.specs.Forms as spec;
-ghost use Rattle.adapter.specs.declared.call.Op.TheVariants as ops;
 ghost use Rattle.rule_words.specs.Vocabulary.{meaning_of};
 
-use crate::op_list::OpList;
-use crate::words::behind;
+use crate::destroys::{Object, read_destroys};
+use crate::indirect_actions::read_indirect;
+use crate::op_list::{OpList, one_op};
+use crate::words::{behind, if_last};
 use adapter::{Op, Shared};
 use flow_actions::Actions;
 use flow_rules::RuleSpec;
-use rule_words::{
-    IdList, flag_and_rest, meaning, read_actions, read_attributes, read_ids, read_items,
-};
+use rule_words::{first_number, flag_and_rest, meaning, read_actions, read_attributes, read_items};
 use std::alloc::{AllocError, Global};
 
 /// What a flow line asks for.
@@ -23,19 +22,20 @@ pub(crate) enum Verb {
     Flush,
     List,
     Isolate,
+    Query,
+    IndirectAction,
 }
 
-static VERBS: [(&str, Verb); 6] = [
+static VERBS: [(&str, Verb); 8] = [
     ("validate", Verb::Validate),
     ("create", Verb::Create),
     ("destroy", Verb::Destroy),
     ("flush", Verb::Flush),
     ("list", Verb::List),
     ("isolate", Verb::Isolate),
+    ("query", Verb::Query),
+    ("indirect_action", Verb::IndirectAction),
 ];
-
-/// The most ids of a line that destroys: it asks for as many calls.
-const MAX_DESTROYED: usize = 64;
 
 /// The verb that a word is.
 pub(crate) fn verb_of(word: &[u8]) -> Option<Verb>
@@ -58,48 +58,22 @@ pub(crate) fn read_ops(
                 return Ok(None);
             };
             let rule = Shared::new(alloc, rule)?;
-            one_op(alloc, Op::Validate(rule))
+            one_op(alloc, Some(Op::Validate(rule)))
         }
         Verb::Create => {
             let Some(rule) = read_rule(words) else {
                 return Ok(None);
             };
             let rule = Shared::new(alloc, rule)?;
-            one_op(alloc, Op::Create(rule))
+            one_op(alloc, Some(Op::Create(rule)))
         }
-        Verb::Destroy => {
-            let Some(ids) = read_destroyed(words) else {
-                return Ok(None);
-            };
-            destroy_ops(alloc, &ids)
-        }
-        Verb::Flush => {
-            if !words.is_empty() {
-                return Ok(None);
-            }
-            one_op(alloc, Op::Flush)
-        }
-        Verb::List => {
-            if !words.is_empty() {
-                return Ok(None);
-            }
-            one_op(alloc, Op::List)
-        }
-        Verb::Isolate => {
-            let Some(op) = read_switch(words) else {
-                return Ok(None);
-            };
-            one_op(alloc, op)
-        }
+        Verb::Destroy => read_destroys(alloc, Object::Rule, words),
+        Verb::Flush => one_op(alloc, if_last(words, Op::Flush)),
+        Verb::List => one_op(alloc, if_last(words, Op::List)),
+        Verb::Isolate => one_op(alloc, read_switch(words)),
+        Verb::Query => one_op(alloc, read_query(words)),
+        Verb::IndirectAction => read_indirect(alloc, words),
     }
-}
-
-/// The list of one op.
-fn one_op(alloc: Global, op: Op) -> Result<Option<OpList>, AllocError>
-    ensures { IfOk result (λ ops. ops ≡ Some (op ∷ [])) }
-{
-    let ops = OpList::single(alloc, op)?;
-    Ok(Some(ops))
 }
 
 /// `ATTRS pattern ITEMS actions ACTIONS`.
@@ -130,28 +104,17 @@ fn read_last_actions(words: &[&[u8]]) -> Option<Actions>
     Some(actions)
 }
 
-/// `rule RULE { rule RULE }`.
-#[tactic(auto, unfolding(crate::specs::Forms::destroys_of))]
-fn read_destroyed(words: &[&[u8]]) -> Option<IdList>
-    ensures { option_map (λ ids. map ops.Destroy ids.items) result
-        ≡ spec.destroys_of (map (λ word. word.now) words.now) }
+/// `RULE count`.
+#[tactic(auto, unfolding(crate::specs::Forms::query_of))]
+fn read_query(words: &[&[u8]]) -> Option<Op>
+    ensures { result ≡ spec.query_of (map (λ word. word.now) words.now) }
 {
-    let (ids, rest) = read_ids(b"rule", 32, MAX_DESTROYED, words)?;
+    let (id, rest) = first_number(32, words)?;
+    let rest = behind(b"count", rest)?;
     if !rest.is_empty() {
         return None;
     }
-    Some(ids)
-}
-
-/// The ops that destroy the rules of these ids.
-fn destroy_ops(alloc: Global, ids: &IdList) -> Result<Option<OpList>, AllocError>
-    ensures { IfOk result (λ destroys. destroys ≡ Some (map ops.Destroy ids.now.items)) }
-{
-    let mut destroys = OpList::new(alloc);
-    for id in ids.as_slice() {
-        destroys.push(Op::Destroy(*id))?;
-    }
-    Ok(Some(destroys))
+    Some(Op::Query(id as u32))
 }
 
 /// `BOOL`.

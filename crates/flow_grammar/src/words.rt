@@ -55,3 +55,13 @@ pub(crate) fn behind<'w, 'a>(leading: &[u8], words: &'w [&'a [u8]]) -> Option<&'
     }
     Some(rest)
 }
+
+/// A value, where no word is left.
+pub(crate) fn if_last<T: Drop>(words: &[&[u8]], value: T) -> Option<T>
+    ensures { result ≡ spec.at_end (map (λ word. word.now) words.now) value }
+{
+    if !words.is_empty() {
+        return None;
+    }
+    Some(value)
+}

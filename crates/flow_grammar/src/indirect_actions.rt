@@ -1,0 +1,130 @@
+//! What `flow indirect_action PORT ..` asks.
+ghost use Rattle.std.specs.Prelude.{◌≡◌, [], ◌∷◌, IfOk, map, option_map};
+ghost use Rattle.flow_grammar.specs.IndirectActions as spec;
+ghost use Rattle.rule_words.specs.Number.{first_number};
+ghost use Rattle.rule_words.specs.Vocabulary.{meaning_of};
+
+use crate::destroys::{Object, read_destroys};
+use crate::op_list::{OpList, one_op};
+use crate::words::{behind, if_last};
+use adapter::Op;
+use flow_actions::Action;
+use rule_words::{first_number, meaning, read_action, read_directions};
+use std::alloc::{AllocError, Global};
+
+/// What is asked of an action that rules share.
+#[derive(Clone, Copy)]
+pub(crate) enum IndirectVerb {
+    Create,
+    Update,
+    Destroy,
+    Query,
+}
+
+static VERBS: [(&str, IndirectVerb); 4] = [
+    ("create", IndirectVerb::Create),
+    ("update", IndirectVerb::Update),
+    ("destroy", IndirectVerb::Destroy),
+    ("query", IndirectVerb::Query),
+];
+
+/// The verb that a word is.
+fn indirect_verb_of(word: &[u8]) -> Option<IndirectVerb>
+    ensures { result ≡ meaning_of spec.verbs word.now }
+{
+    meaning(&VERBS, word)
+}
+
+/// The ops that the words behind `flow indirect_action PORT` ask for.
+pub(crate) fn read_indirect(alloc: Global, words: &[&[u8]]) -> Result<Option<OpList>, AllocError>
+    ensures { IfOk result (λ ops. ops ≡ spec.indirect_asked (map (λ word. word.now) words.now)) }
+{
+    let Some((word, rest)) = words.split_first() else {
+        return Ok(None);
+    };
+    let Some(verb) = indirect_verb_of(word) else {
+        return Ok(None);
+    };
+    read_asked(alloc, verb, rest)
+}
+
+/// The ops that the words behind a verb ask for.
+fn read_asked(
+    alloc: Global,
+    verb: IndirectVerb,
+    words: &[&[u8]],
+) -> Result<Option<OpList>, AllocError>
+    ensures { IfOk result (λ ops. ops ≡ spec.asked verb (map (λ word. word.now) words.now)) }
+{
+    match verb {
+        IndirectVerb::Create => one_op(alloc, read_create(words)),
+        IndirectVerb::Update => one_op(alloc, read_update(words)),
+        IndirectVerb::Destroy => read_destroys(alloc, Object::Indirect, words),
+        IndirectVerb::Query => one_op(alloc, read_query(words)),
+    }
+}
+
+/// `[action_id ID] DIRS action ACTION / end`.
+#[tactic(auto, unfolding(crate::specs::IndirectActions::create_of))]
+fn read_create(words: &[&[u8]]) -> Option<Op>
+    ensures { result ≡ spec.create_of (map (λ word. word.now) words.now) }
+{
+    let (id, rest) = given_id(b"action_id", words)?;
+    let (attr, rest) = read_directions(b"action", rest)?;
+    let action = read_last_action(rest)?;
+    Some(Op::IndirectCreate { id, attr, action })
+}
+
+/// `ID action ACTION / end`.
+#[tactic(auto, unfolding(crate::specs::IndirectActions::update_of))]
+fn read_update(words: &[&[u8]]) -> Option<Op>
+    ensures { result ≡ spec.update_of (map (λ word. word.now) words.now) }
+{
+    let (id, rest) = number_16(words)?;
+    let rest = behind(b"action", rest)?;
+    let action = read_last_action(rest)?;
+    Some(Op::IndirectUpdate { id, action })
+}
+
+/// `ID`.
+#[tactic(auto, unfolding(crate::specs::IndirectActions::query_of))]
+fn read_query(words: &[&[u8]]) -> Option<Op>
+    ensures { result ≡ spec.query_of (map (λ word. word.now) words.now) }
+{
+    let (id, rest) = number_16(words)?;
+    if_last(rest, Op::IndirectQuery(id))
+}
+
+/// The action of words that end with it.
+#[tactic(auto, unfolding(crate::specs::IndirectActions::last_action_of))]
+fn read_last_action(words: &[&[u8]]) -> Option<Action>
+    ensures { result ≡ spec.last_action_of (map (λ word. word.now) words.now) }
+{
+    let (action, rest) = read_action(words)?;
+    let rest = behind(b"end", rest)?;
+    if_last(rest, action)
+}
+
+/// An id, where words begin with its name, and the words behind it.
+fn given_id<'w, 'a>(name: &[u8], words: &'w [&'a [u8]]) -> Option<(Option<u16>, &'w [&'a [u8]])>
+    ensures { option_map (λ read. (read.0, map (λ word. word.now) read.1.now)) result
+        ≡ spec.given_id name.now (map (λ word. word.now) words.entry.now) }
+{
+    let Some((word, rest)) = words.split_first() else {
+        return Some((None, words));
+    };
+    if *word != name {
+        return Some((None, words));
+    }
+    let (id, rest) = number_16(rest)?;
+    Some((Some(id), rest))
+}
+
+/// The first word as a number of 16 bits, and the words behind it.
+fn number_16<'w, 'a>(words: &'w [&'a [u8]]) -> Option<(u16, &'w [&'a [u8]])>
+    ensures { option_map (λ read. (read.0, map (λ word. word.now) read.1.now)) result
+        ≡ first_number 16 (map (λ word. word.now) words.entry.now) }
+{
+    let (number, rest) = first_number(16, words)?;
+    Some((number as u16, rest))
+}
