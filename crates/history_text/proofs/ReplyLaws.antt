@@ -29,15 +29,21 @@ use Rattle.history_text.proofs.KindLaws.{kind-back}
 use Rattle.history_text.proofs.RowLaws.{rows-same}
 use Rattle.history_text.proofs.Parts.{filled-same, listed, listed-same}
 
--- each text of a reply ends in no number
-ends : (kind : Kind) (rest : List ℕ) → Ends (form (kind_form kind)) rest
-ends (kinds.Refused causes.GroupRange) rest = tt
-ends (kinds.Refused cause) rest = tt
-ends (kinds.Isolated true) rest = tt
-ends (kinds.Isolated false) rest = tt
-ends (kinds.Bad bads.Port) rest = tt
-ends (kinds.Bad kind) rest = tt
-ends kind rest = tt
+-- behind a text of a reply that ends in a number stands no digit
+refusal-ends : (cause : Cause) (r : List ℕ) → Ends (form (refusal_form cause)) r
+refusal-ends causes.GroupRange r = tt
+refusal-ends cause r = tt
+
+ends : (limits : Limits) (reply : Reply) (r : List ℕ) → Ends (form (kind_form (spell reply).kind)) (behind_text limits reply ++ 10 ∷ r)
+ends limits (replies.Counted hits bytes) r = lit≤ tt
+ends limits (replies.Fault fault) r = refusal-ends fault.cause (10 ∷ r)
+ends limits (replies.Isolated true) r = tt
+ends limits (replies.Isolated false) r = tt
+ends limits (replies.Bad bads.Arguments) r = tt
+ends limits (replies.Bad bads.Port) r = tt
+ends limits (replies.Bad bads.NotStarted) r = tt
+ends limits (replies.Bad bads.AlreadyStarted) r = tt
+ends limits reply r = tt
 
 fault-fills : (cause : Cause) (at : ℕ) → at < 2 ^ 64 → Fills (form (refusal_form cause)) (refusal_numbers (record { cause = cause; at = at }))
 fault-fills causes.TooManyItems at small = (lit< tt, (lit< tt, tt))
@@ -53,6 +59,10 @@ place-small places.Action at small = small
 fills : (limits : Limits) (r : Reply) → ReplyIsTold limits r → Fills (form (kind_form (spell r).kind)) (spell r).numbers
 fills limits (replies.Created id) told = (told, tt)
 fills limits (replies.Destroyed id) told = (told, tt)
+fills limits (replies.Counted hits bytes) told = (told.0, (told.1, tt))
+fills limits (replies.IndirectCreated id) told = (told, tt)
+fills limits (replies.IndirectUpdated id) told = (told, tt)
+fills limits (replies.IndirectDestroyed id) told = (told, tt)
 fills limits (replies.Listed rows) told = tt
 fills limits (replies.Isolated true) told = tt
 fills limits (replies.Isolated false) told = tt
@@ -83,8 +93,12 @@ unspelled kinds.Validated ns = Some replies.Validated
 unspelled kinds.Created ns = Some (replies.Created (first ns))
 unspelled kinds.Destroyed ns = Some (replies.Destroyed (first ns))
 unspelled kinds.Flushed ns = Some replies.Flushed
+unspelled kinds.Counted ns = Some (replies.Counted (first ns) (first (rest ns)))
 unspelled kinds.Listed ns = None
 unspelled (kinds.Isolated on) ns = Some (replies.Isolated on)
+unspelled kinds.IndirectCreated ns = Some (replies.IndirectCreated (first ns))
+unspelled kinds.IndirectUpdated ns = Some (replies.IndirectUpdated (first ns))
+unspelled kinds.IndirectDestroyed ns = Some (replies.IndirectDestroyed (first ns))
 unspelled kinds.Started ns = Some replies.Started
 unspelled kinds.Stopped ns = None
 unspelled kinds.Bye ns = Some replies.Bye
@@ -180,8 +194,8 @@ reply-same limits a b r s told told' stop stop' e =
     let yours = filled (kind_form (spell b).kind) (spell b).numbers in
     let text = sym (append_assoc mine (behind_text limits a) (10 ∷ r)) ∙ e ∙ append_assoc yours (behind_text limits b) (10 ∷ s) in
     let (kind, rests) = same_parts ((spell a).kind, (spell a).numbers) ((spell b).kind, (spell b).numbers) (behind_text limits a ++ 10 ∷ r) (behind_text limits b ++ 10 ∷ s)
-    (sym (kind-back (spell a).kind (spell a).numbers _ (fills limits a told) (ends (spell a).kind _)) ∙ ap (front_by kind_rows) text
-    ∙ kind-back (spell b).kind (spell b).numbers _ (fills limits b told') (ends (spell b).kind _)) in
+    (sym (kind-back (spell a).kind (spell a).numbers _ (fills limits a told) (ends limits a r)) ∙ ap (front_by kind_rows) text
+    ∙ kind-back (spell b).kind (spell b).numbers _ (fills limits b told') (ends limits b s)) in
     behind-same limits a b r s told told' stop stop' (ap (λ p. p.0) kind) (ap (λ p. p.1) kind) rests
 
 pub reply-text-same : (limits : Limits) (a b : Reply) → ReplyIsTold limits a → ReplyIsTold limits b → reply_text limits a ≡ reply_text limits b → a ≡ b

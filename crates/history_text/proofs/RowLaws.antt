@@ -21,7 +21,7 @@ item-found items.Void = refl
 item-found item = refl
 
 abbrev all_actions : List ActionKind
-all_actions = actions.Void ∷ actions.Queue ∷ actions.Rss ∷ actions.Drop ∷ actions.Jump ∷ actions.Mark ∷ actions.MacSrc ∷ actions.MacDst ∷ actions.Ipv4Src
+all_actions = actions.Void ∷ actions.Queue ∷ actions.Rss ∷ actions.Drop ∷ actions.Jump ∷ actions.Mark ∷ actions.Count ∷ actions.Indirect ∷ actions.MacSrc ∷ actions.MacDst ∷ actions.Ipv4Src
     ∷ actions.Ipv4Dst ∷ actions.Ipv6Src ∷ actions.Ipv6Dst ∷ actions.PortSrc ∷ actions.PortDst ∷ actions.DecTtl ∷ actions.SetTtl ∷ actions.SetVid ∷ []
 
 action-found : (action : ActionKind) → found action_text all_actions (action_text action) ≡ Some action

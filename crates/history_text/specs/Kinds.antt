@@ -12,9 +12,13 @@ kind_form kinds.Validated = codes "Flow rule validated"
 kind_form kinds.Created = codes "Flow rule #0 created"
 kind_form kinds.Destroyed = codes "Flow rule #0 destroyed"
 kind_form kinds.Flushed = codes "Flow rules flushed"
+kind_form kinds.Counted = codes "COUNT: hits 0 bytes 0"
 kind_form kinds.Listed = codes "ID\tGroup\tPrio\tAttr\tRule"
 kind_form (kinds.Isolated true) = codes "Ingress traffic is restricted to the defined flow rules"
 kind_form (kinds.Isolated false) = codes "Ingress traffic is not restricted"
+kind_form kinds.IndirectCreated = codes "Indirect action #0 created"
+kind_form kinds.IndirectUpdated = codes "Indirect action #0 updated"
+kind_form kinds.IndirectDestroyed = codes "Indirect action #0 destroyed"
 kind_form kinds.Started = codes "Packet forwarding started"
 kind_form kinds.Stopped = codes "Packet forwarding stopped: "
 kind_form kinds.Bye = codes "Bye"
@@ -35,13 +39,21 @@ plain kind = record { kind = kind; numbers = [] }
 abbrev pub numbered : Kind → ℕ → Spelled
 numbered kind number = record { kind = kind; numbers = number ∷ [] }
 
+-- a counter's frames, and their bytes
+abbrev pub counted : ℕ → ℕ → Spelled
+counted hits bytes = record { kind = kinds.Counted; numbers = hits ∷ bytes ∷ [] }
+
 abbrev pub spell : Reply → Spelled
 spell replies.Validated = plain kinds.Validated
 spell (replies.Created id) = numbered kinds.Created id
 spell (replies.Destroyed id) = numbered kinds.Destroyed id
 spell replies.Flushed = plain kinds.Flushed
+spell (replies.Counted hits bytes) = counted hits bytes
 spell (replies.Listed rows) = plain kinds.Listed
 spell (replies.Isolated on) = plain (kinds.Isolated on)
+spell (replies.IndirectCreated id) = numbered kinds.IndirectCreated id
+spell (replies.IndirectUpdated id) = numbered kinds.IndirectUpdated id
+spell (replies.IndirectDestroyed id) = numbered kinds.IndirectDestroyed id
 spell replies.Started = plain kinds.Started
 spell (replies.Stopped totals) = plain kinds.Stopped
 spell replies.Bye = plain kinds.Bye

@@ -47,7 +47,11 @@ RowsAreTold (row ∷ rows) = RowIsTold row × RowsAreTold rows
 abbrev pub ReplyIsTold : Limits → Reply → Type 0
 ReplyIsTold limits (replies.Created id) = id < 2 ^ 64
 ReplyIsTold limits (replies.Destroyed id) = id < 2 ^ 64
+ReplyIsTold limits (replies.Counted hits bytes) = (hits < 2 ^ 64) × (bytes < 2 ^ 64)
 ReplyIsTold limits (replies.Listed rows) = RowsAreTold rows
+ReplyIsTold limits (replies.IndirectCreated id) = id < 2 ^ 64
+ReplyIsTold limits (replies.IndirectUpdated id) = id < 2 ^ 64
+ReplyIsTold limits (replies.IndirectDestroyed id) = id < 2 ^ 64
 ReplyIsTold limits (replies.Stopped totals) = TotalsAreTold limits totals
 ReplyIsTold limits (replies.Fault fault) = PlaceIsTold (told_of fault.cause).place fault.at
 ReplyIsTold limits reply = Unit

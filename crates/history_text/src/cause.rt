@@ -13,7 +13,7 @@ use flow_rules::{Cause, ErrorType, Fault};
 const MAX_NUMBERS: usize = 4;
 
 /// The numbers of a text.
-pub(crate) type Numbers = ArrayVec<u64, MAX_NUMBERS>;
+pub(crate) type Numbers = ArrayVec<u128, MAX_NUMBERS>;
 
 /// Whether the refusal of a cause names a place.
 #[derive(Clone, Copy)]
@@ -38,7 +38,7 @@ pub(crate) struct CauseRow {
     place: FaultPlace,
     /// The text, with the number in it written `0`.
     text: &'static [u8],
-    number: Option<u64>,
+    number: Option<u128>,
 }
 
 /// A row of the table of error types.
@@ -154,13 +154,13 @@ fn push_place(numbers: &mut Numbers, place: FaultPlace, at: u16)
 {
     match place {
         FaultPlace::Nowhere => {}
-        FaultPlace::Item => numbers.push(at as u64),
-        FaultPlace::Action => numbers.push(at as u64),
+        FaultPlace::Item => numbers.push(at as u128),
+        FaultPlace::Action => numbers.push(at as u128),
     }
 }
 
 /// Adds a number, where there is one.
-fn push_number(numbers: &mut Numbers, number: Option<u64>)
+fn push_number(numbers: &mut Numbers, number: Option<u128>)
     requires { array_vec_len numbers.old < 4 }
     ensures items { numbers.new.items ≡ numbers.old.items ++ number_in number }
 {
@@ -175,7 +175,7 @@ pub(crate) fn refusal_numbers(fault: &Fault) -> Numbers
 {
     let told = told_of(fault.cause);
     let mut numbers = ArrayVec::new();
-    numbers.push(type_row(fault.kind()).number as u64);
+    numbers.push(type_row(fault.kind()).number as u128);
     push_place(&mut numbers, told.place, fault.at);
     push_number(&mut numbers, told.number);
     numbers

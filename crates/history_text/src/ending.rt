@@ -43,10 +43,15 @@ pub(crate) fn print_ending<K: Sink>(sink: &mut K, page: &mut Page, ending: Endin
         Ending::Whole => {}
         Ending::Bad { place, kind } => {
             let parts: [&[u8]; 3] = [b"capture: bad at byte 0: ", kind_words(kind), b"\n"];
-            print_form(sink, page, &parts, &[place]);
+            print_form(sink, page, &parts, &[place as u128]);
         }
         Ending::Large { place } => {
-            print_form(sink, page, &[b"capture: too large at byte 0\n"], &[place]);
+            print_form(
+                sink,
+                page,
+                &[b"capture: too large at byte 0\n"],
+                &[place as u128],
+            );
         }
         Ending::ReadFault => print(sink, page, b"capture: read fault\n"),
     }

@@ -26,8 +26,8 @@ fn print_part<'n, K: Sink>(
     sink: &mut K,
     page: &mut Page,
     part: &[u8],
-    numbers: &'n [u64],
-) -> &'n [u64]
+    numbers: &'n [u128],
+) -> &'n [u128]
     ensures prints { Prints (gather_of K.taken K.faults sink.old page.old)
         (gather_of K.taken K.faults sink.new page.new) (filled part.now numbers.entry.now) }
     ensures left { result.now ≡ drop (holes (form part.now)) numbers.entry.now }
@@ -46,7 +46,7 @@ fn print_part<'n, K: Sink>(
 }
 
 /// Prints a form, given in parts, with its numbers.
-pub(crate) fn print_form<K: Sink>(sink: &mut K, page: &mut Page, parts: &[&[u8]], numbers: &[u64])
+pub(crate) fn print_form<K: Sink>(sink: &mut K, page: &mut Page, parts: &[&[u8]], numbers: &[u128])
     ensures { Prints (gather_of K.taken K.faults sink.old page.old)
         (gather_of K.taken K.faults sink.new page.new)
         (filled (concat (map (λ part. part.now) parts.now)) numbers.now) }

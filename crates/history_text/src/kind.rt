@@ -1,7 +1,7 @@
 //! The texts of replies, and which of them a reply has. The texts stand here and nowhere else.
 ghost use Rattle.std.specs.Prelude.{◌≡◌, map};
 ghost use Rattle.std.specs.List.{concat};
-ghost use Rattle.history_text.specs.Kinds.{kind_form, plain, numbered, spell};
+ghost use Rattle.history_text.specs.Kinds.{kind_form, plain, numbered, counted, spell};
 
 use crate::cause::{Numbers, refusal_form, refusal_numbers};
 use adapter::{BadKind, Reply};
@@ -15,8 +15,12 @@ pub(crate) enum Kind {
     Created,
     Destroyed,
     Flushed,
+    Counted,
     Listed,
     Isolated(bool),
+    IndirectCreated,
+    IndirectUpdated,
+    IndirectDestroyed,
     Started,
     Stopped,
     Bye,
@@ -52,11 +56,15 @@ pub(crate) fn kind_form(kind: Kind) -> Form
         Kind::Created => whole(b"Flow rule #0 created"),
         Kind::Destroyed => whole(b"Flow rule #0 destroyed"),
         Kind::Flushed => whole(b"Flow rules flushed"),
+        Kind::Counted => whole(b"COUNT: hits 0 bytes 0"),
         Kind::Listed => whole(b"ID\tGroup\tPrio\tAttr\tRule"),
         Kind::Isolated(true) => {
             whole(b"Ingress traffic is restricted to the defined flow rules")
         }
         Kind::Isolated(false) => whole(b"Ingress traffic is not restricted"),
+        Kind::IndirectCreated => whole(b"Indirect action #0 created"),
+        Kind::IndirectUpdated => whole(b"Indirect action #0 updated"),
+        Kind::IndirectDestroyed => whole(b"Indirect action #0 destroyed"),
         Kind::Started => whole(b"Packet forwarding started"),
         Kind::Stopped => whole(b"Packet forwarding stopped: "),
         Kind::Bye => whole(b"Bye"),
@@ -79,7 +87,7 @@ fn plain(kind: Kind) -> Spelled
 }
 
 /// A text with a number.
-fn numbered(kind: Kind, number: u64) -> Spelled
+fn numbered(kind: Kind, number: u128) -> Spelled
     ensures { record { kind = result.kind; numbers = result.numbers.items } ≡ numbered kind number }
 {
     let mut numbers = ArrayVec::new();
@@ -87,16 +95,33 @@ fn numbered(kind: Kind, number: u64) -> Spelled
     Spelled { kind, numbers }
 }
 
+/// The text of what a counter has counted.
+fn counted(hits: u64, bytes: u128) -> Spelled
+    ensures { record { kind = result.kind; numbers = result.numbers.items } ≡ counted hits bytes }
+{
+    let mut numbers = ArrayVec::new();
+    numbers.push(hits as u128);
+    numbers.push(bytes);
+    Spelled {
+        kind: Kind::Counted,
+        numbers,
+    }
+}
+
 pub(crate) fn spell(reply: &Reply) -> Spelled
     ensures { record { kind = result.kind; numbers = result.numbers.items } ≡ spell reply.now }
 {
     match reply {
         Reply::Validated => plain(Kind::Validated),
-        Reply::Created(id) => numbered(Kind::Created, *id as u64),
-        Reply::Destroyed(id) => numbered(Kind::Destroyed, *id as u64),
+        Reply::Created(id) => numbered(Kind::Created, *id as u128),
+        Reply::Destroyed(id) => numbered(Kind::Destroyed, *id as u128),
         Reply::Flushed => plain(Kind::Flushed),
+        Reply::Counted(hits, bytes) => counted(*hits, *bytes),
         Reply::Listed(_) => plain(Kind::Listed),
         Reply::Isolated(on) => plain(Kind::Isolated(*on)),
+        Reply::IndirectCreated(id) => numbered(Kind::IndirectCreated, *id as u128),
+        Reply::IndirectUpdated(id) => numbered(Kind::IndirectUpdated, *id as u128),
+        Reply::IndirectDestroyed(id) => numbered(Kind::IndirectDestroyed, *id as u128),
         Reply::Started => plain(Kind::Started),
         Reply::Stopped(_) => plain(Kind::Stopped),
         Reply::Bye => plain(Kind::Bye),

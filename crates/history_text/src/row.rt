@@ -38,6 +38,8 @@ fn action_name(action: ActionKind) -> &'static [u8]
         ActionKind::Drop => b" DROP",
         ActionKind::Jump => b" JUMP",
         ActionKind::Mark => b" MARK",
+        ActionKind::Count => b" COUNT",
+        ActionKind::Indirect => b" INDIRECT",
         ActionKind::MacSrc => b" SET_MAC_SRC",
         ActionKind::MacDst => b" SET_MAC_DST",
         ActionKind::Ipv4Src => b" SET_IPV4_SRC",
@@ -75,7 +77,7 @@ fn print_row<K: Sink>(sink: &mut K, page: &mut Page, row: &ListRow)
     ensures { Prints (gather_of K.taken K.faults sink.old page.old)
         (gather_of K.taken K.faults sink.new page.new) (row_text row.now) }
 {
-    let numbers = [row.id as u64, row.group as u64, row.priority as u64];
+    let numbers = [row.id as u128, row.group as u128, row.priority as u128];
     print_form(sink, page, &[b"\n0\t0\t0\ti--\t"], &numbers);
     print_items(sink, page, row.items.as_slice());
     print(sink, page, b"=>");

@@ -14,7 +14,7 @@ pub(crate) fn print_totals<K: Sink>(sink: &mut K, page: &mut Page, limits: Limit
     ensures { Prints (gather_of K.taken K.faults sink.old page.old)
         (gather_of K.taken K.faults sink.new page.new) (totals_text limits totals.now) }
 {
-    let numbers = [totals.received, totals.dropped];
+    let numbers = [totals.received as u128, totals.dropped as u128];
     print_form(sink, page, &[b"received 0 dropped 0 queues "], &numbers);
     print_numbers(sink, page, &totals.queues[..limits.rxq as usize]);
 }
