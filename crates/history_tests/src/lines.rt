@@ -52,7 +52,7 @@ fn expect_reply(
 
 #[test]
 fn each_reply_has_its_text(rt: HostRuntime) -> Result<(), Fail> {
-    let rows: [(u8, Reply, &[u8]); 13] = [
+    let rows: [(u8, Reply, &[u8]); 19] = [
         (0, Reply::Validated, b"shell 12.1: Flow rule validated\n"),
         (1, Reply::Created(7), b"agent0 12.1: Flow rule #7 created\n"),
         (
@@ -61,6 +61,39 @@ fn each_reply_has_its_text(rt: HostRuntime) -> Result<(), Fail> {
             b"agent7 12.1: Flow rule #4294967294 destroyed\n",
         ),
         (0, Reply::Flushed, b"shell 12.1: Flow rules flushed\n"),
+        (
+            0,
+            Reply::Counted(2, 114),
+            b"shell 12.1: COUNT: hits 2 bytes 114\n",
+        ),
+        (
+            3,
+            Reply::Counted(0, 0),
+            b"agent2 12.1: COUNT: hits 0 bytes 0\n",
+        ),
+        (
+            0,
+            Reply::Counted(
+                18446744073709551615,
+                340282366920938463463374607431768211455,
+            ),
+            b"shell 12.1: COUNT: hits 18446744073709551615 bytes 340282366920938463463374607431768211455\n",
+        ),
+        (
+            0,
+            Reply::IndirectCreated(5),
+            b"shell 12.1: Indirect action #5 created\n",
+        ),
+        (
+            0,
+            Reply::IndirectUpdated(65535),
+            b"shell 12.1: Indirect action #65535 updated\n",
+        ),
+        (
+            0,
+            Reply::IndirectDestroyed(0),
+            b"shell 12.1: Indirect action #0 destroyed\n",
+        ),
         (
             0,
             Reply::Isolated(true),

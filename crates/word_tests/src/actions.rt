@@ -2,7 +2,7 @@
 use crate::shown::{shown_actions, text_of};
 use std::test::Fail;
 
-static EACH_ACTION_IS_READ: [(&[u8], &str); 44] = [
+static EACH_ACTION_IS_READ: [(&[u8], &str); 56] = [
     (b"mark / end", "create mark 0"),
     (b"mark id 7 / end", "create mark 7"),
     (
@@ -100,7 +100,25 @@ static EACH_ACTION_IS_READ: [(&[u8], &str); 44] = [
         "create SetVid(4096) SetVid(65535)",
     ),
     (b"of_set_vlan_vid vlan_vid 65536 / end", "bad"),
-    (b"count / end", "bad"),
+    (b"count / end", "create count"),
+    (b"count / count / end", "create count count"),
+    (b"count 1 / end", "bad"),
+    (b"count id 1 / end", "bad"),
+    (b"indirect 5 / end", "create indirect 5"),
+    (
+        b"indirect 0xffff / indirect 0 / end",
+        "create indirect 65535 indirect 0",
+    ),
+    (b"indirect 65536 / end", "bad"),
+    (b"indirect / end", "bad"),
+    (b"indirect id 5 / end", "bad"),
+    (b"indirect 5 6 / end", "bad"),
+    (b"indirect 5 indirect 6 / end", "bad"),
+    (b"indirect 5 id 6 / end", "bad"),
+    (
+        b"count / indirect 3 / queue index 1 / end",
+        "create count indirect 3 1",
+    ),
 ];
 
 #[test]

@@ -20,4 +20,6 @@ mod relations;
 #[cfg(test)]
 mod scripts;
 #[cfg(test)]
+mod shared_actions;
+#[cfg(test)]
 mod shown;

@@ -318,7 +318,7 @@ type Long = (
     &'static str,
 );
 
-static LONG_LINES: [Long; 5] = [
+static LONG_LINES: [Long; 7] = [
     (
         "a line lists 64 ids",
         b"flow destroy 0",
@@ -331,6 +331,22 @@ static LONG_LINES: [Long; 5] = [
         "a line does not list 65 ids",
         b"flow destroy 0",
         b" rule 9",
+        65,
+        b"",
+        "bad",
+    ),
+    (
+        "a line lists 64 shared actions",
+        b"flow indirect_action 0 destroy",
+        b" action_id 9",
+        64,
+        b"",
+        "indirect 9 destroy;indirect 9 destroy;indirect 9 destroy;indirect 9 destroy;indirect 9 destroy;indirect 9 destroy;indirect 9 destroy;indirect 9 destroy;indirect 9 destroy;indirect 9 destroy;indirect 9 destroy;indirect 9 destroy;indirect 9 destroy;indirect 9 destroy;indirect 9 destroy;indirect 9 destroy;indirect 9 destroy;indirect 9 destroy;indirect 9 destroy;indirect 9 destroy;indirect 9 destroy;indirect 9 destroy;indirect 9 destroy;indirect 9 destroy;indirect 9 destroy;indirect 9 destroy;indirect 9 destroy;indirect 9 destroy;indirect 9 destroy;indirect 9 destroy;indirect 9 destroy;indirect 9 destroy;indirect 9 destroy;indirect 9 destroy;indirect 9 destroy;indirect 9 destroy;indirect 9 destroy;indirect 9 destroy;indirect 9 destroy;indirect 9 destroy;indirect 9 destroy;indirect 9 destroy;indirect 9 destroy;indirect 9 destroy;indirect 9 destroy;indirect 9 destroy;indirect 9 destroy;indirect 9 destroy;indirect 9 destroy;indirect 9 destroy;indirect 9 destroy;indirect 9 destroy;indirect 9 destroy;indirect 9 destroy;indirect 9 destroy;indirect 9 destroy;indirect 9 destroy;indirect 9 destroy;indirect 9 destroy;indirect 9 destroy;indirect 9 destroy;indirect 9 destroy;indirect 9 destroy;indirect 9 destroy;",
+    ),
+    (
+        "a line does not list 65 shared actions, of whatever port",
+        b"flow indirect_action 1 destroy",
+        b" action_id 9",
         65,
         b"",
         "bad",

@@ -62,6 +62,11 @@ fn show_action(out: &mut String, action: &Action) -> Result<(), AllocError> {
             let mark = *mark;
             write!(out, " mark {mark}")
         }
+        Action::Count => out.push_str(" count"),
+        Action::Indirect(id) => {
+            let id = *id;
+            write!(out, " indirect {id}")
+        }
         Action::Set(edit) => write!(out, " {edit:?}"),
     }
 }
@@ -134,6 +139,23 @@ fn bad_text(kind: BadKind) -> &'static str {
     }
 }
 
+/// The creation of an action that rules share, with its id where it has one.
+fn show_indirect(
+    out: &mut String,
+    id: &Option<u16>,
+    attr: &Attr,
+    action: &Action,
+) -> Result<(), AllocError> {
+    out.push_str("indirect")?;
+    if let Some(id) = id {
+        let id = *id;
+        write!(out, " {id}")?;
+    }
+    out.push_str(" create")?;
+    show_action(out, action)?;
+    show_attr(out, attr)
+}
+
 pub(crate) fn show_op(out: &mut String, op: &Op) -> Result<(), AllocError> {
     match op {
         Op::Validate(rule) => show_rule(out, "validate", rule.get()),
@@ -143,9 +165,27 @@ pub(crate) fn show_op(out: &mut String, op: &Op) -> Result<(), AllocError> {
             write!(out, "destroy {id};")
         }
         Op::Flush => out.push_str("flush"),
+        Op::Query(id) => {
+            let id = *id;
+            write!(out, "query {id}")
+        }
         Op::List => out.push_str("list"),
         Op::Isolate(true) => out.push_str("isolate on"),
         Op::Isolate(false) => out.push_str("isolate off"),
+        Op::IndirectCreate { id, attr, action } => show_indirect(out, id, attr, action),
+        Op::IndirectUpdate { id, action } => {
+            let id = *id;
+            write!(out, "indirect {id} update")?;
+            show_action(out, action)
+        }
+        Op::IndirectDestroy(id) => {
+            let id = *id;
+            write!(out, "indirect {id} destroy;")
+        }
+        Op::IndirectQuery(id) => {
+            let id = *id;
+            write!(out, "indirect {id} query")
+        }
         Op::Start(None) => out.push_str("start"),
         Op::Start(Some(count)) => {
             let count = *count;
