@@ -1,7 +1,7 @@
 //! Generated frames of all kinds of headers, on ways of all lengths, through an adapter's history and back.
 use adapter::{Adapter, At, Call, Caller, EntryView, Op, Parcel, Shared};
 use arrayvec::ArrayVec;
-use flow_actions::{Action, Actions, Fate, Verdict};
+use flow_actions::{ALL_RSS_TYPES, Action, Actions, Fate, Rss, Verdict};
 use flow_rules::{Attr, Limits, RuleSpec};
 use packet_headers::{
     Eth, Ipv4, Ipv6, Ipv6Address, Key, Network, Stack, Tag, Tags, Tcp, Transport, Tunnel, Udp,
@@ -14,8 +14,8 @@ use std::process::Abort;
 /// Kinds of tags, network and transport headers, and of keys.
 const KEYS: u32 = 3 * 3 * 3 * 4;
 
-/// Ways of 0 to 16 rules, each to a queue and to nowhere.
-const WAYS: u32 = 17 * 2;
+/// Ways of 0 to 16 rules, each to nowhere, to a queue, or to one that a hash chooses, with a mark and without.
+const WAYS: u32 = 17 * 3 * 2;
 
 /// A number of the frame of a seed.
 fn word(seed: u32, place: u32) -> u32 {
@@ -154,29 +154,43 @@ fn key(seed: u32) -> Key {
     }
 }
 
-/// Where a way ends: nowhere, or in a queue of its own.
-fn fate_of(way: u32) -> Fate {
-    match way % 2 {
-        0 => Fate::Drop,
-        _ => Fate::Queue((way / 2 % 16) as u8),
+/// How many rules take a frame on a way.
+const fn rules_of(way: u32) -> u32 {
+    way / 6
+}
+
+const fn is_marked(way: u32) -> bool {
+    way / 3 % 2 == 1
+}
+
+/// What ends a way.
+fn end_of(way: u32) -> Action {
+    match way % 3 {
+        0 => Action::Drop,
+        1 => Action::Queue((way / 6 % 16) as u16),
+        _ => Action::Rss(Rss {
+            queues: ArrayVec::new(),
+            types: ALL_RSS_TYPES,
+        }),
     }
 }
 
-/// What the rule of a group does: the frame goes on, or it is the last of the way.
-fn action_of(way: u32, group: u32) -> Action {
-    if group.saturating_add(1) < way / 2 {
-        return Action::Jump(group.saturating_add(1));
+/// What the rule of a group does: the first one marks the frame, each but the last sends it on, and the last one ends its way.
+fn actions_of(way: u32, group: u32) -> Actions {
+    let mut list = ArrayVec::new();
+    if group == 0 && is_marked(way) {
+        list.push(Action::Mark(word(way, 40)));
     }
-    match fate_of(way) {
-        Fate::Drop => Action::Drop,
-        Fate::Queue(queue) => Action::Queue(queue as u16),
+    if group.saturating_add(1) < rules_of(way) {
+        list.push(Action::Jump(group.saturating_add(1)));
+    } else {
+        list.push(end_of(way));
     }
+    Actions { list, more: 0 }
 }
 
 /// The rule of a group, which takes each frame.
 fn rule_of(way: u32, group: u32) -> RuleSpec {
-    let mut list = ArrayVec::new();
-    list.push(action_of(way, group));
     RuleSpec {
         attr: Attr {
             group,
@@ -189,7 +203,7 @@ fn rule_of(way: u32, group: u32) -> RuleSpec {
             items: ArrayVec::new(),
             more: 0,
         },
-        actions: Actions { list, more: 0 },
+        actions: actions_of(way, group),
     }
 }
 
@@ -200,29 +214,63 @@ const fn call(op: Op) -> Call {
     }
 }
 
-/// An adapter with the rules of a way. Where it has none, a frame is dropped in isolated mode alone.
+/// How many ids are given before those of the rules of a way.
+const fn ids_before(way: u32) -> u32 {
+    way % 7
+}
+
+/// An adapter with the rules of a way, the last of which took effect first. Where it has none, a frame is dropped in isolated mode
+/// alone.
 fn adapter_of(alloc: Global, way: u32) -> Result<Adapter, AllocError> {
     let limits = Limits {
         rxq: 16,
         flow_max: 4096,
     };
     let mut adapter = Adapter::new(alloc, limits)?;
-    adapter.step(Caller::SHELL, &call(Op::Isolate(way % 2 == 0)))?;
-    for group in 0..way / 2 {
+    adapter.step(Caller::SHELL, &call(Op::Isolate(way % 3 == 0)))?;
+    for id in 0..ids_before(way) {
+        let rule = Shared::new(alloc, rule_of(1, 0))?;
+        adapter.step(Caller::SHELL, &call(Op::Create(rule)))?;
+        adapter.step(Caller::SHELL, &call(Op::Destroy(id)))?;
+    }
+    for behind in 0..rules_of(way) {
+        let group = rules_of(way).saturating_sub(1).saturating_sub(behind);
         let rule = Shared::new(alloc, rule_of(way, group))?;
         adapter.step(Caller::SHELL, &call(Op::Create(rule)))?;
     }
     Ok(adapter)
 }
 
-/// A verdict tells the rules of a way and its end.
-fn tells_way(rt: &impl Abort, verdict: &Verdict, way: u32) {
-    assert_eq!(rt; verdict.fate, fate_of(way), "fate of way {way}");
+/// A verdict tells the end of a way, with a hash only where one chose the queue.
+fn tells_end(rt: &impl Abort, verdict: &Verdict, way: u32) {
+    let is_hashed = rules_of(way) > 0 && way % 3 == 2;
+    assert_eq!(rt; verdict.hash.is_some(), is_hashed, "hash of way {way}");
     assert_eq!(rt;
-        verdict.path.len(),
-        (way / 2) as usize,
-        "rules of way {way}"
+        verdict.fate == Fate::Drop,
+        way % 3 == 0,
+        "fate of way {way}"
     );
+}
+
+/// A verdict tells the rules of a way: the later a group, the lower the id.
+fn tells_path(rt: &impl Abort, verdict: &Verdict, way: u32) {
+    let path = verdict.path.as_slice();
+    assert_eq!(rt; path.len(), rules_of(way) as usize, "rules of way {way}");
+    let mut id = ids_before(way).saturating_add(rules_of(way));
+    for told in path {
+        id = id.saturating_sub(1);
+        assert_eq!(rt; *told, id, "way {way}");
+    }
+}
+
+/// A verdict tells the mark of a way.
+fn tells_mark(rt: &impl Abort, verdict: &Verdict, way: u32) {
+    let mark = if rules_of(way) > 0 && is_marked(way) {
+        Some(word(way, 40))
+    } else {
+        None
+    };
+    assert_eq!(rt; verdict.mark, mark, "mark of way {way}");
 }
 
 /// Two keys have the same layers at the same offsets.
@@ -270,7 +318,10 @@ fn passes(rt: &impl Abort, adapter: &mut Adapter, seed: u32) -> Result<(), Alloc
         len: word(seed, 37),
     };
     let verdict = adapter.verdict(&parcel.key);
-    tells_way(rt, &verdict, seed / KEYS);
+    let way = seed / KEYS;
+    tells_end(rt, &verdict, way);
+    tells_path(rt, &verdict, way);
+    tells_mark(rt, &verdict, way);
     let place = adapter.entries();
     adapter.packet(Caller(24), &parcel, &verdict)?;
     assert!(rt; place < adapter.entries());
