@@ -10,12 +10,18 @@ use std::sync::Wait;
 use std::thread::Threads;
 use testpmd_shell::{Status, session, session_serial};
 
-/// The words of a session without a capture, with one, and with one and two queues.
+/// The words of a session without a capture, with one, and with one and two or three queues.
 pub(crate) const SCRIPT_ALONE: [&str; 1] = ["--cmdline-file=script"];
 
 pub(crate) const ONE_QUEUE: [&str; 2] = ["--cmdline-file=script", "--rx-pcap=capture"];
 
 pub(crate) const TWO_QUEUES: [&str; 3] = ["--cmdline-file=script", "--rx-pcap=capture", "--rxq=2"];
+
+pub(crate) const THREE_QUEUES: [&str; 3] = [
+    "--cmdline-file=script",
+    "--rx-pcap=capture",
+    "--rxq=3",
+];
 
 /// The header of a little-endian capture with microseconds.
 const FILE_HEADER: [u8; 24] = [
