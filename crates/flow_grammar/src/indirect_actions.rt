@@ -1,5 +1,6 @@
 //! What `flow indirect_action PORT ..` asks.
 ghost use Rattle.std.specs.Prelude.{◌≡◌, [], ◌∷◌, IfOk, map, option_map};
+ghost use Rattle.adapter.specs.declared.call.Op.TheVariants as ops;
 ghost use Rattle.flow_grammar.specs.IndirectActions as spec;
 ghost use Rattle.rule_words.specs.Number.{first_number};
 ghost use Rattle.rule_words.specs.Vocabulary.{meaning_of};
@@ -7,8 +8,9 @@ ghost use Rattle.rule_words.specs.Vocabulary.{meaning_of};
 use crate::destroys::{Object, read_destroys};
 use crate::op_list::{OpList, one_op};
 use crate::words::{behind, if_last};
-use adapter::Op;
+use adapter::{Op, Shared};
 use flow_actions::Action;
+use flow_rules::Attr;
 use rule_words::{first_number, meaning, read_action, read_directions};
 use std::alloc::{AllocError, Global};
 
@@ -57,33 +59,53 @@ fn read_asked(
     ensures { IfOk result (λ ops. ops ≡ spec.asked verb (map (λ word. word.now) words.now)) }
 {
     match verb {
-        IndirectVerb::Create => one_op(alloc, read_create(words)),
-        IndirectVerb::Update => one_op(alloc, read_update(words)),
+        IndirectVerb::Create => one_op(alloc, read_create(alloc, words)?),
+        IndirectVerb::Update => one_op(alloc, read_update(alloc, words)?),
         IndirectVerb::Destroy => read_destroys(alloc, Object::Indirect, words),
         IndirectVerb::Query => one_op(alloc, read_query(words)),
     }
 }
 
 /// `[action_id ID] DIRS action ACTION / end`.
+fn read_create(alloc: Global, words: &[&[u8]]) -> Result<Option<Op>, AllocError>
+    ensures { IfOk result (λ op. op ≡ spec.create_of (map (λ word. word.now) words.now)) }
+{
+    let Some((id, attr, action)) = created_words(words) else {
+        return Ok(None);
+    };
+    let action = Shared::new(alloc, action)?;
+    Ok(Some(Op::IndirectCreate { id, attr, action }))
+}
+
 #[tactic(auto, unfolding(crate::specs::IndirectActions::create_of))]
-fn read_create(words: &[&[u8]]) -> Option<Op>
-    ensures { result ≡ spec.create_of (map (λ word. word.now) words.now) }
+fn created_words(words: &[&[u8]]) -> Option<(Option<u16>, Attr, Action)>
+    ensures { option_map (λ read. ops.IndirectCreate read.0 read.1 read.2) result ≡ spec.create_of (map (λ word. word.now) words.now) }
 {
     let (id, rest) = given_id(b"action_id", words)?;
     let (attr, rest) = read_directions(b"action", rest)?;
     let action = read_last_action(rest)?;
-    Some(Op::IndirectCreate { id, attr, action })
+    Some((id, attr, action))
 }
 
 /// `ID action ACTION / end`.
+fn read_update(alloc: Global, words: &[&[u8]]) -> Result<Option<Op>, AllocError>
+    ensures { IfOk result (λ op. op ≡ spec.update_of (map (λ word. word.now) words.now)) }
+{
+    let Some((id, action)) = updated_words(words) else {
+        return Ok(None);
+    };
+    let action = Shared::new(alloc, action)?;
+    Ok(Some(Op::IndirectUpdate { id, action }))
+}
+
 #[tactic(auto, unfolding(crate::specs::IndirectActions::update_of))]
-fn read_update(words: &[&[u8]]) -> Option<Op>
-    ensures { result ≡ spec.update_of (map (λ word. word.now) words.now) }
+fn updated_words(words: &[&[u8]]) -> Option<(u16, Action)>
+    ensures { option_map (λ read. ops.IndirectUpdate read.0 read.1) result ≡ spec.update_of (map (λ word. word.now) words.now) }
 {
     let (id, rest) = number_16(words)?;
     let rest = behind(b"action", rest)?;
     let action = read_last_action(rest)?;
-    Some(Op::IndirectUpdate { id, action })
+    Some((id, action))
 }
 
 /// `ID`.
