@@ -118,13 +118,30 @@ fn visit<F: FlowsInEffect>(flows: &F, key: &Key, group: u32, way: &mut Way)
         → IsAt key.now way.new (visited (F.flows flows.now) walked (spec.best (F.flows flows.now).rules group walked.layers)) }
     ensures longer { array_vec_len way.new.path ≤ array_vec_len way.old.path + 1 }
 {
-    let Some(rule) = flows.best(group, current(way, key)) else {
+    let best = match &way.edited {
+        None => flows.best(group, key),
+        Some(edited) => best_behind_edits(flows, group, edited),
+    };
+    let Some(rule) = best else {
         way.next = Course::End(miss(flows.is_isolated()));
         return;
     };
     way.path.push(rule.id());
     way.next = Course::End(Fate::Queue(0));
     perform(flows, rule, key, way);
+}
+
+/// The rule of a group that takes a frame whose headers were edited. It is apart from the usual case, in which the headers are
+/// read where they lie.
+#[inline(never)]
+fn best_behind_edits<'a, F: FlowsInEffect>(
+    flows: &'a F,
+    group: u32,
+    edited: &Key,
+) -> Option<&'a Rule>
+    ensures { option_map (λ rule. rule.now) result ≡ spec.best (F.flows flows.entry.now).rules group edited.now }
+{
+    flows.best(group, edited)
 }
 
 /// The headers of the frame as they are now.
