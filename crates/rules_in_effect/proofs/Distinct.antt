@@ -184,3 +184,12 @@ HaveOwnIds-distinct (x ∷ list) own =
     (λ rule found. cond-false (nat_eq x.rule.id rule.id) (Some x.rule) (rule_at rule.id rules)
     (ne_eqb x.rule.id rule.id (λ same. let gone : rule_at rule.id rules ≡ None = subst (λ i. rule_at i rules ≡ None) same none in cc)) ∙ found)
     rules (HaveOwnIds-distinct list own.1))
+
+-- the first rule by its id
+pub first_by_id : (list : List InEffect) (id : ℕ) → AreDistinct list → Some id ≡ option_map (λ entry. entry.rule.id) (slice_get list 0)
+    → (entry_at id list ≡ slice_get list 0) × (without id list ≡ drop 1 list)
+first_by_id [] id own is = absurd (cc)
+first_by_id (x ∷ list) id own is =
+    let same : has_id id x.rule ≡ true = eq-eqb x.rule.id id (sym (same_Some id x.rule.id is)) in
+    let none : entry_at id list ≡ None = subst (λ i. entry_at i list ≡ None) (sym (same_Some id x.rule.id is)) own.0 in
+    (ap (λ b. cond b (Some x) (entry_at id list)) same, ap (λ b. cond (not b) (x ∷ without id list) (without id list)) same ∙ without-none id list none)

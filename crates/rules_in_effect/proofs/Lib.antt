@@ -1,2 +1,5 @@
 pub mod Distinct
+mod Kept
+mod Named
+mod Ordered
 mod Scanning

@@ -1,14 +1,14 @@
 //! The rules in effect.
-ghost use Rattle.std.specs.Prelude.{◌≡◌, ◌+◌, ◌≤◌, [], ◌∷◌, ◌++◌, None, length, map, drop, slice_get, count_by, IfOk, OnOk};
-ghost use Rattle.std.specs.Option.{option_copied, option_map};
+ghost use Rattle.std.specs.Prelude.{◌≡◌, ◌+◌, ◌≤◌, [], ◌∷◌, ◌++◌, None, length, map, drop, slice_get, count_by, if◌then◌else◌, IfOk, OnOk};
+ghost use Rattle.std.specs.Option.{option_copied, option_map, is_none};
 ghost use Rattle.std.specs.List.{list_any};
 ghost use Rattle.flow_rules.specs.Best as spec;
 ghost use Rattle.flow_rules.specs.Naming.{HaveOwnIds};
 ghost use Rattle.rules_in_effect.specs.Entries.{rule_in, is_plain, is_user, entry_at, without, raised, AreDistinct, CanCount};
 
-use crate::in_effect::{InEffect, hit};
-use crate::place::{place_of, rows_of};
-use crate::scan::{best_of, is_user, plain_in};
+use crate::in_effect::InEffect;
+use crate::index::IdIndex;
+use crate::order::Order;
 use flow_rules::{Count, Rule};
 use packet_headers::Key;
 use std::alloc::{AllocError, Global};
@@ -17,7 +17,11 @@ use std::marker::Model;
 /// The rules in effect, in the order in which they took effect. No two have one id.
 #[derive(Drop)]
 pub struct RulesInEffect {
-    entries: Vec<InEffect>,
+    order: Order,
+    /// The handle of each rule, by its id.
+    index: IdIndex,
+    /// How many rules stand in no table.
+    plain: usize,
 }
 
 impl Model for RulesInEffect {
@@ -38,7 +42,9 @@ impl RulesInEffect {
         ensures { result.list ≡ [] }
     {
         RulesInEffect {
-            entries: Vec::new(alloc),
+            order: Order::new(alloc),
+            index: IdIndex::new(alloc),
+            plain: 0,
         }
     }
 
@@ -48,14 +54,14 @@ impl RulesInEffect {
         ensures distinct { AreDistinct self.now.list }
         ensures own { HaveOwnIds (map rule_in self.now.list) }
     {
-        self.entries.len()
+        self.order.len()
     }
 
     /// How many of them stand in no table.
     pub fn plain_len(&self) -> usize
         ensures { result ≡ count_by is_plain self.now.list }
     {
-        plain_in(self.entries.as_slice())
+        self.plain
     }
 
     /// Takes memory for one more rule.
@@ -63,7 +69,8 @@ impl RulesInEffect {
         ensures same { self.new.list ≡ self.old.list }
         ensures room { OnOk result (1 ≤ self.new.room) }
     {
-        self.entries.reserve(1)
+        self.index.settle()?;
+        self.order.reserve()
     }
 
     /// A rule takes effect behind all others. Nothing is counted yet.
@@ -72,11 +79,14 @@ impl RulesInEffect {
         requires fresh { entry_at rule.id self.old.list ≡ None }
         ensures { self.new.list ≡ self.old.list ++ record { rule = rule; table = table; count = record { hits = 0; bytes = 0 } } ∷ [] }
     {
-        self.entries.push_reserved(InEffect {
+        let id = rule.id();
+        let handle = self.order.append(InEffect {
             rule,
             table,
             count: Count { hits: 0, bytes: 0 },
         });
+        self.index.insert(id, handle);
+        self.plain += one_if_plain(table);
     }
 
     /// Takes the rule of this id out, if it is in effect.
@@ -84,10 +94,13 @@ impl RulesInEffect {
         ensures entry { result ≡ entry_at id self.old.list }
         ensures others { self.new.list ≡ without id self.old.list }
     {
-        let Some(place) = place_of(&self.entries, id) else {
+        let Some(handle) = self.index.get(id) else {
             return None;
         };
-        Some(self.entries.remove(place))
+        self.index.remove(id);
+        let entry = self.order.take(handle);
+        self.plain -= one_if_plain(entry.table);
+        Some(entry)
     }
 
     /// Takes the rule out that took effect first.
@@ -95,34 +108,45 @@ impl RulesInEffect {
         ensures entry { result ≡ slice_get self.old.list 0 }
         ensures others { self.new.list ≡ drop 1 self.old.list }
     {
-        if self.entries.is_empty() {
+        let Some(id) = self.first_id() else {
             return None;
+        };
+        self.remove(id)
+    }
+
+    /// The id of the rule that took effect first.
+    fn first_id(&self) -> Option<u32>
+        ensures value { result ≡ option_map (λ entry. entry.rule.id) (slice_get self.now.list 0) }
+        ensures distinct { AreDistinct self.now.list }
+    {
+        match self.order.first() {
+            Some(entry) => Some(entry.rule.id()),
+            None => None,
         }
-        Some(self.entries.remove(0))
     }
 
     /// All rules go.
     pub fn clear(&mut self)
         ensures { self.new.list ≡ [] }
     {
-        self.entries.clear();
+        while self.pop_first().is_some() {}
     }
 
     /// Whether a rule uses the shared action of this id.
     pub fn is_used(&self, id: u32) -> bool
         ensures { result ≡ list_any (is_user id) self.now.list }
     {
-        self.entries.iter().any(|entry| is_user(entry, id))
+        self.order.is_used(id)
     }
 
     /// The rule of this id, if it is in effect.
     pub fn get(&self, id: u32) -> Option<&InEffect>
         ensures { option_copied result ≡ entry_at id self.now.list }
     {
-        let Some(place) = place_of(&self.entries, id) else {
+        let Some(handle) = self.index.get(id) else {
             return None;
         };
-        Some(&self.entries[place])
+        self.order.get(handle)
     }
 
     /// Counts one frame more, of so many bytes, for the rule of this id.
@@ -130,23 +154,33 @@ impl RulesInEffect {
         requires { CanCount bytes (entry_at id self.old.list) }
         ensures { self.new.list ≡ raised id bytes self.old.list }
     {
-        let Some(place) = place_of(&self.entries, id) else {
-            return;
+        let Some(handle) = self.index.get(id) else {
+            unreachable!()
         };
-        hit(&mut self.entries[place], bytes);
+        self.order.hit(handle, bytes);
     }
 
     /// The rule of a group that takes a frame of these layers.
     pub fn best(&self, group: u32, key: &Key) -> Option<&Rule>
         ensures { option_map (λ rule. rule.now) result ≡ spec.best (map rule_in self.now.list) group key.now }
     {
-        best_of(self.entries.as_slice(), group, key)
+        self.order.best(group, key)
     }
 
     /// All rules, in the order in which they took effect.
     pub fn rows(&self, alloc: Global) -> Result<Vec<&InEffect>, AllocError>
         ensures { IfOk result (λ rows. map (λ row. row.now) rows.items ≡ self.now.list) }
     {
-        rows_of(alloc, self.entries.as_slice())
+        self.order.rows(alloc)
+    }
+}
+
+/// One for a rule that stands in no table.
+fn one_if_plain(table: Option<u16>) -> usize
+    ensures { result ≡ (if is_none table then 1 else 0) }
+{
+    match table {
+        None => 1,
+        Some(_) => 0,
     }
 }

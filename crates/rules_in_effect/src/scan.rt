@@ -5,26 +5,24 @@ ghost use Rattle.std.specs.List.{list_any};
 ghost use Rattle.flow_rules.specs.Faults.{is_shared};
 ghost use Rattle.flow_rules.specs.Best as spec;
 ghost use Rattle.rules_in_effect.specs.Entries.{rule_in, is_plain, is_user};
-ghost use Rattle.rules_in_effect.specs.Scan.{is_lower, next_best};
+ghost use Rattle.rules_in_effect.specs.Scan.{is_lower, next_best, scanned};
 
 use crate::in_effect::InEffect;
 use flow_actions::Action;
 use flow_rules::Rule;
 use packet_headers::Key;
 
-/// How many of the rules stand in no table.
-pub(crate) fn plain_in(rules: &[InEffect]) -> usize
-    ensures { result ≡ count_by is_plain rules.now }
+/// The best rule of a group so far, or one of these that comes before it and takes a frame of these layers.
+pub(crate) fn better_of<'a>(
+    entries: &'a [InEffect],
+    so_far: Option<&'a Rule>,
+    group: u32,
+    key: &Key,
+) -> Option<&'a Rule>
+    ensures { option_map (λ rule. rule.now) result ≡ scanned group key.now (option_map (λ rule. rule.now) so_far.entry) entries.entry.now }
 {
-    rules.iter().filter(|entry| entry.table.is_none()).count()
-}
-
-/// The rule of a group that takes a frame of these layers.
-pub(crate) fn best_of<'a>(rules: &'a [InEffect], group: u32, key: &Key) -> Option<&'a Rule>
-    ensures { option_map (λ rule. rule.now) result ≡ spec.best (map rule_in rules.entry.now) group key.now }
-{
-    let mut best: Option<&Rule> = None;
-    for entry in rules {
+    let mut best = so_far;
+    for entry in entries {
         best = better(&entry.rule, best, group, key);
     }
     best
@@ -63,8 +61,15 @@ fn comes_before(rule: &Rule, best: Option<&Rule>) -> bool
     }
 }
 
+/// Whether one of these rules uses the shared action of this id.
+pub(crate) fn is_used_in(entries: &[InEffect], id: u32) -> bool
+    ensures { result ≡ list_any (is_user id) entries.now }
+{
+    entries.iter().any(|entry| is_user(entry, id))
+}
+
 /// Whether a rule uses the shared action of this id.
-pub(crate) fn is_user(entry: &InEffect, id: u32) -> bool
+fn is_user(entry: &InEffect, id: u32) -> bool
     ensures { result ≡ is_user id entry.now }
 {
     names(entry.rule.actions().list.as_slice(), id)

@@ -1,6 +1,7 @@
 //! The places of a pool.
 ghost use Rattle.std.specs.Prelude.{◌≡◌, ◌+◌, ◌<◌, ◌≤◌, ◌^◌, Some, option_copied, is_some, IsSome, vec_len, vec_capacity};
 ghost use Rattle.std.specs.Borrow.{Lends, sem};
+ghost use Rattle.slot_pool.specs.Links.{next_of};
 ghost use Rattle.slot_pool.specs.Place.{filled, refilled, value_of, held_at, link_in, with_link, with_neighbour, with_free, free_after};
 
 use crate::chain::{Link, Side};
@@ -44,6 +45,19 @@ pub(crate) fn neighbours<T>(places: &[Place<T>], handle: Handle) -> Option<Link>
 {
     match living(places, handle) {
         Some(held) => held.link,
+        None => None,
+    }
+}
+
+/// The neighbour behind the handle, if there is one.
+pub(crate) fn behind<T>(places: &[Place<T>], handle: Handle) -> Option<Handle>
+    ensures { result ≡ next_of (link_in (held_at places.now handle)) }
+{
+    let Some(held) = living(places, handle) else {
+        return None;
+    };
+    match &held.link {
+        Some(link) => link.next,
         None => None,
     }
 }

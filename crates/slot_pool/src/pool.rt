@@ -8,7 +8,7 @@ ghost use Rattle.slot_pool.specs.Links.{IsChain, IsUnchained, KeepsOthers, is_ot
 use crate::chain::{Chain, Link, Side};
 use crate::handle::Handle;
 use crate::place::{
-    Place, Resident, add_places, lives, living, neighbours, set_link, set_neighbour,
+    Place, Resident, add_places, behind, lives, living, neighbours, set_link, set_neighbour,
 };
 use std::alloc::{AllocError, Global};
 use std::marker::Model;
@@ -39,6 +39,17 @@ impl<T> Model for Pool<T> {
 
 impl<T> Pool<T> {
     ghost use Rattle.slot_pool.specs.Lends.{LendsValue, LendsLiving};
+
+    /// A pool without places, which takes no memory.
+    pub fn empty(alloc: Global) -> Pool<T>
+        ensures { result ≡ empty_pool 0 }
+    {
+        Pool {
+            places: Vec::new(alloc),
+            free: None,
+            puts: 0,
+        }
+    }
 
     /// An empty pool of `n` places.
     pub fn new(alloc: Global, n: u32) -> Result<Pool<T>, AllocError>
@@ -228,9 +239,6 @@ impl<T> Pool<T> {
         ensures member { IfSome result (Contains (members self.now.links chain.now)) }
         ensures lives { IfSome result (Lives self.now) }
     {
-        match neighbours(&self.places, handle) {
-            Some(link) => link.next,
-            None => None,
-        }
+        behind(&self.places, handle)
     }
 }

@@ -1,11 +1,30 @@
-use Rattle.std.proofs.Common.{sym, subst, ◌≡◌, None}
-use Rattle.rules_in_effect.specs.Entries.{entry_at, AreDistinct}
+use Rattle.std.proofs.Common.{◌≡◌, ◌≢◌, ℕ, ◌+◌, ◌≤◌, ◌^◌, None, Some, sym, ap, ◌∙◌, subst, arith, rules}
+use Rattle.rules_in_effect.specs.Entries.{is_plain, entry_at}
+use Rattle.rules_in_effect.specs.IdIndex.{find}
+use Rattle.rules_in_effect.specs.Inside.{AreNamed}
+use Rattle.rules_in_effect.specs.Order.{entries, entry_in}
 use Rattle.rules_in_effect.specs.RulesView.{RulesView}
-use Rattle.rules_in_effect.proofs.Distinct.{AreDistinct-push}
+use Rattle.std.proofs.lemmas.List.{length-map, map-append}
+use Rattle.std.proofs.lemmas.List.Sums.{count_by-le-length}
+use Rattle.rules_in_effect.proofs.Named.{AreNamed-push, plain-push}
 use Rattle.rules_in_effect.proofs.rules.RulesInEffect.push.Goals as goal
 
+pub overflow_add-self : goal.overflow_add-self
+overflow_add-self c =
+    let few = count_by-le-length is_plain (entries c.append-handle.new.self.kept) in
+    let long = length-map c.append-handle.new.self.kept entry_in in
+    let counted = plain-push (entries c.self.inside.order.kept) (entries c.append-handle.new.self.kept) _ c.self.inside.plain c.one_if_plain.result c.self.invariant.1 c.one_if_plain.ensures
+    (ap entries c.append-handle.ensures.kept ∙ map-append entry_in c.self.inside.order.kept _) in
+    let small : c.self.inside.plain + c.one_if_plain.result ≤ 2 ^ 31 = omega (arith, few, long, counted, c.append-handle.ensures.few) in
+    search (rules, small)
+
 pub invariant_of-self : goal.invariant_of-self
-invariant_of-self c =
-    subst AreDistinct (sym c.push_reserved.ensures.items)
-    (AreDistinct-push c.self.inside.entries.items _ c.self.invariant
-    (subst (λ (v : RulesView). entry_at c.args.rule.id v.list ≡ None) (sym c.self.view_is) c.requires.fresh))
+invariant_of-self c = (
+  subst (AreNamed (find c.insert.new.self)) (sym c.append-handle.ensures.kept)
+      (AreNamed-push (find c.self.inside.index) (find c.insert.new.self) c.self.inside.order.kept c.append-handle.result _ c.self.invariant.0 c.append-handle.ensures.fresh
+      (subst (λ (v : RulesView). entry_at c.args.rule.id v.list ≡ None) (sym c.self.view_is) c.requires.fresh)
+      (subst (λ i. find c.insert.new.self i ≡ Some c.append-handle.result) c.id-id.ensures c.insert.ensures.here)
+      (subst (λ i. (a : ℕ) → a ≢ i → find c.insert.new.self a ≡ find c.self.inside.index a) c.id-id.ensures c.insert.ensures.others)),
+  plain-push (entries c.self.inside.order.kept) (entries c.append-handle.new.self.kept) _ c.self.inside.plain c.one_if_plain.result c.self.invariant.1 c.one_if_plain.ensures
+      (ap entries c.append-handle.ensures.kept ∙ map-append entry_in c.self.inside.order.kept _),
+)

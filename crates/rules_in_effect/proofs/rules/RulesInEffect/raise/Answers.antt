@@ -1,41 +1,33 @@
-use Rattle.std.proofs.Common.{sym, ap, ◌≡◌, ◌∙◌, Some, subst, set, arith}
-use Rattle.std.proofs.lemmas.Option.{get_or_from_slice_get}
-use Rattle.rules_in_effect.specs.Entries.{AreDistinct, CanCount, entry_at, raised, with_hit}
+use Rattle.std.proofs.Common.{sym, ap, ◌∙◌, subst}
+use Rattle.rules_in_effect.specs.Entries.{CanCount, is_plain, entry_at, raised}
+use Rattle.rules_in_effect.specs.IdIndex.{find}
+use Rattle.rules_in_effect.specs.Inside.{AreNamed}
+use Rattle.rules_in_effect.specs.Order.{entries}
 use Rattle.rules_in_effect.specs.RulesView.{RulesView}
-use Rattle.rules_in_effect.proofs.Distinct.{placed, AreDistinct-raised}
+use Rattle.std.specs.List.{count_by}
+use Rattle.rules_in_effect.proofs.Named.{AreNamed-hit, known, named-none, plain-raised}
 use Rattle.rules_in_effect.proofs.rules.RulesInEffect.raise.Goals as goal
 
-pub hit-requires-clause-hits : goal.hit-requires-clause-hits
-hit-requires-clause-hits c =
-    let found = c.in-Some.ensures.some in
-    let is : entry_at c.args.id c.self.inside.entries.items ≡ Some c.index_mut.result.now
-    = (placed c.args.id c.self.inside.entries.items c.in-Some.place found.entry c.self.invariant found.at found.is).at
-    ∙ ap (λ e. Some e) (sym (c.index_mut.ensures.value ∙ get_or_from_slice_get c.self.inside.entries.items c.in-Some.place found.entry c.index_mut.result.now found.at)) in
-    let can : CanCount c.args.bytes (Some c.index_mut.result.now) = subst (CanCount c.args.bytes) is (subst (λ (v : RulesView). CanCount c.args.bytes (entry_at c.args.id v.list)) (sym c.self.view_is) c.requires) in
-    omega (arith, can.0)
+pub unreachable-requires : goal.unreachable-requires
+unreachable-requires c =
+    let none = named-none (find c.self.inside.index) c.self.inside.order.kept c.args.id c.self.invariant.0.each (sym c.get.ensures ∙ c.in_default.is) in
+    subst (CanCount c.args.bytes) none (subst (λ (v : RulesView). CanCount c.args.bytes (entry_at c.args.id v.list)) (sym c.self.view_is) c.requires)
 
-pub hit-requires-clause-bytes : goal.hit-requires-clause-bytes
-hit-requires-clause-bytes c =
-    let found = c.in-Some.ensures.some in
-    let is : entry_at c.args.id c.self.inside.entries.items ≡ Some c.index_mut.result.now
-    = (placed c.args.id c.self.inside.entries.items c.in-Some.place found.entry c.self.invariant found.at found.is).at
-    ∙ ap (λ e. Some e) (sym (c.index_mut.ensures.value ∙ get_or_from_slice_get c.self.inside.entries.items c.in-Some.place found.entry c.index_mut.result.now found.at)) in
-    let can : CanCount c.args.bytes (Some c.index_mut.result.now) = subst (CanCount c.args.bytes) is (subst (λ (v : RulesView). CanCount c.args.bytes (entry_at c.args.id v.list)) (sym c.self.view_is) c.requires) in
-    omega (arith, can.1)
+pub hit-requires : goal.hit-requires
+hit-requires c =
+    let told = known (find c.self.inside.index) c.self.inside.order.kept c.args.id c.in-Some.handle c.self.invariant.0 (sym c.get.ensures ∙ c.in-Some.is) in
+    subst (CanCount c.args.bytes) (told.is ∙ sym told.at) (subst (λ (v : RulesView). CanCount c.args.bytes (entry_at c.args.id v.list)) (sym c.self.view_is) c.requires)
 
 pub invariant_of-self : goal.invariant_of-self
 invariant_of-self c =
-    let found = c.in-Some.ensures.some in
-    let one = c.hit.ensures ∙ ap (with_hit c.args.bytes) (c.index_mut.ensures.value ∙ get_or_from_slice_get c.self.inside.entries.items c.in-Some.place found.entry c.index_mut.result.now found.at) in
-    subst AreDistinct
-    (sym (ap (set c.self.inside.entries.items c.in-Some.place) one
-    ∙ (placed c.args.id c.self.inside.entries.items c.in-Some.place found.entry c.self.invariant found.at found.is).hit c.args.bytes))
-    (AreDistinct-raised c.args.id c.args.bytes c.self.inside.entries.items c.self.invariant)
+    let is = sym c.get.ensures ∙ c.in-Some.is in
+    let told = known (find c.self.inside.index) c.self.inside.order.kept c.args.id c.in-Some.handle c.self.invariant.0 is in (
+      subst (AreNamed (find c.self.inside.index)) (sym c.hit.ensures) (AreNamed-hit (find c.self.inside.index) c.self.inside.order.kept c.args.id c.args.bytes c.in-Some.handle c.self.invariant.0 is),
+      c.self.invariant.1
+          ∙ sym (ap (λ kept. count_by is_plain (entries kept)) c.hit.ensures ∙ ap (count_by is_plain) (told.hit c.args.bytes) ∙ plain-raised c.args.id c.args.bytes (entries c.self.inside.order.kept)),
+    )
 
 pub returns : goal.returns
 returns c =
-    let found = c.in-Some.ensures.some in
-    let one = c.hit.ensures ∙ ap (with_hit c.args.bytes) (c.index_mut.ensures.value ∙ get_or_from_slice_get c.self.inside.entries.items c.in-Some.place found.entry c.index_mut.result.now found.at) in
-    ap (set c.self.inside.entries.items c.in-Some.place) one
-    ∙ (placed c.args.id c.self.inside.entries.items c.in-Some.place found.entry c.self.invariant found.at found.is).hit c.args.bytes
-    ∙ ap (λ (v : RulesView). raised c.args.id c.args.bytes v.list) c.self.view_is
+    let told = known (find c.self.inside.index) c.self.inside.order.kept c.args.id c.in-Some.handle c.self.invariant.0 (sym c.get.ensures ∙ c.in-Some.is) in
+    ap entries c.hit.ensures ∙ told.hit c.args.bytes ∙ ap (λ (v : RulesView). raised c.args.id c.args.bytes v.list) c.self.view_is

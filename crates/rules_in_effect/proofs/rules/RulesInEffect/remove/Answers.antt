@@ -1,35 +1,51 @@
-use Rattle.std.proofs.Common.{sym, ap, ◌∙◌, Some, subst, ◌<◌, length, rules}
-use Rattle.std.proofs.lemmas.Option.{get_or_from_slice_get, slice_get_within}
-use Rattle.rules_in_effect.specs.Entries.{without, entry_at, AreDistinct}
+use Rattle.std.proofs.Common.{◌≡◌, Some, sym, ap, ◌∙◌, subst, refl, IsSome, arith}
+use Rattle.rules_in_effect.specs.Entries.{is_plain, entry_at, without}
+use Rattle.rules_in_effect.specs.IdIndex.{find}
+use Rattle.rules_in_effect.specs.Inside.{AreNamed}
+use Rattle.rules_in_effect.specs.Order.{entries}
 use Rattle.rules_in_effect.specs.RulesView.{RulesView}
-use Rattle.rules_in_effect.proofs.Distinct.{placed, without-none, AreDistinct-without}
+use Rattle.std.specs.List.{count_by}
+use Rattle.rules_in_effect.proofs.Distinct.{without-none}
+use Rattle.rules_in_effect.proofs.Named.{AreNamed-but, known, named-none, plain-without}
 use Rattle.rules_in_effect.proofs.rules.RulesInEffect.remove.Goals as goal
+
+pub returns-in_default-clause-entry : goal.returns-in_default-clause-entry
+returns-in_default-clause-entry c =
+    sym (named-none (find c.self.inside.index) c.self.inside.order.kept c.args.id c.self.invariant.0.each (sym c.get.ensures ∙ c.in_default.is))
+    ∙ ap (λ (v : RulesView). entry_at c.args.id v.list) c.self.view_is
 
 pub returns-in_default-clause-others : goal.returns-in_default-clause-others
 returns-in_default-clause-others c =
-    sym (without-none c.args.id c.args.self.now.list (ap (λ (v : RulesView). entry_at c.args.id v.list) (sym c.self.view_is) ∙ c.in_default.ensures.none))
+    let none = named-none (find c.self.inside.index) c.self.inside.order.kept c.args.id c.self.invariant.0.each (sym c.get.ensures ∙ c.in_default.is) in
+    subst (λ (v : RulesView). v.list ≡ without c.args.id v.list) c.self.view_is (sym (without-none c.args.id (entries c.self.inside.order.kept) none))
 
-pub remove-requires : goal.remove-requires
-remove-requires c =
-    let found = c.in-Some.ensures.some in
-    let within : c.in-Some.place < length c.self.inside.entries.items = slice_get_within c.self.inside.entries.items c.in-Some.place found.entry found.at in
-    search (rules, within)
+pub take-entry-requires : goal.take-entry-requires
+take-entry-requires c = subst IsSome (sym (c.self.invariant.0.exact c.args.id c.in-Some.handle (sym c.get.ensures ∙ c.in-Some.is)).at) refl
+
+pub overflow_sub-self : goal.overflow_sub-self
+overflow_sub-self c =
+    let told = known (find c.self.inside.index) c.self.inside.order.kept c.args.id c.in-Some.handle c.self.invariant.0 (sym c.get.ensures ∙ c.in-Some.is) in
+    let taken : entry_at c.args.id (entries c.self.inside.order.kept) ≡ Some c.take-entry.result = told.is ∙ sym told.at ∙ c.take-entry.ensures.entry in
+    omega (arith, c.self.invariant.1, c.one_if_plain.ensures, plain-without c.args.id (entries c.self.inside.order.kept) c.take-entry.result c.self.invariant.0.distinct taken)
 
 pub invariant_of-self : goal.invariant_of-self
 invariant_of-self c =
-    let found = c.in-Some.ensures.some in
-    let left = c.remove.ensures.items ∙ (placed c.args.id c.self.inside.entries.items c.in-Some.place found.entry c.self.invariant found.at found.is).rest in
-    subst AreDistinct (sym left) (AreDistinct-without c.args.id c.self.inside.entries.items c.self.invariant)
+    let is = sym c.get.ensures ∙ c.in-Some.is in
+    let told = known (find c.self.inside.index) c.self.inside.order.kept c.args.id c.in-Some.handle c.self.invariant.0 is in
+    let taken : entry_at c.args.id (entries c.self.inside.order.kept) ≡ Some c.take-entry.result = told.is ∙ sym told.at ∙ c.take-entry.ensures.entry in
+    let left : count_by is_plain (entries c.take-entry.new.self.kept) ≡ count_by is_plain (without c.args.id (entries c.self.inside.order.kept))
+    = ap (count_by is_plain) (ap entries c.take-entry.ensures.others ∙ told.rest) in (
+      subst (AreNamed (find c.remove.new.self)) (sym c.take-entry.ensures.others)
+          (AreNamed-but (find c.self.inside.index) (find c.remove.new.self) c.self.inside.order.kept c.args.id c.in-Some.handle c.self.invariant.0 is c.remove.ensures.here c.remove.ensures.others),
+      omega (arith, c.self.invariant.1, c.one_if_plain.ensures, left, plain-without c.args.id (entries c.self.inside.order.kept) c.take-entry.result c.self.invariant.0.distinct taken),
+    )
 
 pub returns-clause-entry : goal.returns-clause-entry
 returns-clause-entry c =
-    let found = c.in-Some.ensures.some in
-    ap (λ e. Some e) (c.remove.ensures.value ∙ get_or_from_slice_get c.self.inside.entries.items c.in-Some.place found.entry c.remove.result found.at)
-    ∙ sym (placed c.args.id c.self.inside.entries.items c.in-Some.place found.entry c.self.invariant found.at found.is).at
-    ∙ ap (λ (v : RulesView). entry_at c.args.id v.list) c.self.view_is
+    let told = known (find c.self.inside.index) c.self.inside.order.kept c.args.id c.in-Some.handle c.self.invariant.0 (sym c.get.ensures ∙ c.in-Some.is) in
+    sym c.take-entry.ensures.entry ∙ told.at ∙ sym told.is ∙ ap (λ (v : RulesView). entry_at c.args.id v.list) c.self.view_is
 
 pub returns-clause-others : goal.returns-clause-others
 returns-clause-others c =
-    let found = c.in-Some.ensures.some in
-    c.remove.ensures.items ∙ (placed c.args.id c.self.inside.entries.items c.in-Some.place found.entry c.self.invariant found.at found.is).rest
-    ∙ ap (λ (v : RulesView). without c.args.id v.list) c.self.view_is
+    let told = known (find c.self.inside.index) c.self.inside.order.kept c.args.id c.in-Some.handle c.self.invariant.0 (sym c.get.ensures ∙ c.in-Some.is) in
+    ap entries c.take-entry.ensures.others ∙ told.rest ∙ ap (λ (v : RulesView). without c.args.id v.list) c.self.view_is
