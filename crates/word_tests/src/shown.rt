@@ -172,11 +172,11 @@ pub(crate) fn show_op(out: &mut String, op: &Op) -> Result<(), AllocError> {
         Op::List => out.push_str("list"),
         Op::Isolate(true) => out.push_str("isolate on"),
         Op::Isolate(false) => out.push_str("isolate off"),
-        Op::IndirectCreate { id, attr, action } => show_indirect(out, id, attr, action),
+        Op::IndirectCreate { id, attr, action } => show_indirect(out, id, attr, action.get()),
         Op::IndirectUpdate { id, action } => {
             let id = *id;
             write!(out, "indirect {id} update")?;
-            show_action(out, action)
+            show_action(out, action.get())
         }
         Op::IndirectDestroy(id) => {
             let id = *id;
