@@ -257,35 +257,20 @@ fn cause_at<N: Known>(
 fn is_unknown<N: Known>(known: &N, action: &Action) -> bool
     ensures { result ≡ is_unknown (N.kinds known.now) action.now }
 {
-    match action {
-        Action::Indirect(id) => known.kind_of(*id).is_none(),
-        Action::Void
-        | Action::Queue(_)
-        | Action::Rss(_)
-        | Action::Drop
-        | Action::Jump(_)
-        | Action::Mark(_)
-        | Action::Count
-        | Action::Set(_) => false,
-    }
+    let Action::Indirect(id) = action else {
+        return false;
+    };
+    known.kind_of(*id).is_none()
 }
 
 /// Whether an action says where a frame goes, where a shared one counts as its kind.
 fn is_fate_in<N: Known>(known: &N, action: &Action) -> bool
     ensures { result ≡ is_fate_in (N.kinds known.now) action.now }
 {
-    let kind = match action {
-        Action::Indirect(id) => known.kind_of(*id),
-        Action::Void
-        | Action::Queue(_)
-        | Action::Rss(_)
-        | Action::Drop
-        | Action::Jump(_)
-        | Action::Mark(_)
-        | Action::Count
-        | Action::Set(_) => Some(action.kind()),
+    let Action::Indirect(id) = action else {
+        return action.kind().is_fate();
     };
-    match kind {
+    match known.kind_of(*id) {
         Some(kind) => kind.is_fate(),
         None => false,
     }

@@ -21,9 +21,9 @@ pub fn field_count(kind: ItemKind) -> usize
     fields_of(kind).len()
 }
 
-/// The mask of a field where an item gives none.
+/// The mask of a field where an item gives none, by its place in the kind's fields; 0 behind the last of them.
 #[tactic(auto, using(crate::proofs::FieldLists::default_mask_at, crate::proofs::FieldLists::default_mask_past))]
-fn default_mask(kind: ItemKind, field: usize) -> u128
+pub fn default_mask(kind: ItemKind, field: usize) -> u128
     ensures { result ≡ slice_index (default_masks kind) field }
 {
     let fields = fields_of(kind);

@@ -62,7 +62,7 @@ mod test;
 mod walk;
 
 pub use compiling::compile;
-pub use conditions::conditions_are_spec_last_and_mask;
+pub use conditions::{conditions_are_spec_last_and_mask, default_mask};
 pub use fault::ItemFault;
 pub use pattern::{Fields, Item, MAX_ITEMS, Pattern};
 pub use shape::Shape;

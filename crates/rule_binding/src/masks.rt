@@ -1,25 +1,12 @@
 //! The masks of a template's items.
-ghost use Rattle.std.specs.Prelude.{◌≡◌, nat_lt, slice_index};
+ghost use Rattle.std.specs.Prelude.{◌≡◌, nat_lt};
 ghost use Rattle.std.specs.List.{list_any};
 ghost use Rattle.pattern_items.specs.Conditions.{default_masks};
 ghost use Rattle.rule_binding.specs.Binding.{has_bits};
 ghost use Rattle.rule_binding.specs.Templates.{template_mask};
 
-use packet_headers::{ItemKind, fields_of};
-use pattern_items::{Fields, Item};
-
-/// The mask of a field where an item gives none.
-#[tactic(auto, using(pattern_items::proofs::FieldLists::default_mask_at, pattern_items::proofs::FieldLists::default_mask_past))]
-fn default_mask(kind: ItemKind, field: usize) -> u128
-    ensures { result ≡ slice_index (default_masks kind) field }
-{
-    let fields = fields_of(kind);
-    if field < fields.len() {
-        fields[field].default_mask
-    } else {
-        0
-    }
-}
+use packet_headers::ItemKind;
+use pattern_items::{Fields, Item, default_mask};
 
 /// The masks of an item that gives none.
 fn default_masks(kind: ItemKind) -> Fields
