@@ -132,7 +132,7 @@ fn tunnel(seed: u32, inner: Option<Stack>) -> Tunnel {
 }
 
 /// A frame without headers, without VXLAN, with VXLAN and nothing behind it, or with a frame behind it.
-fn key(seed: u32) -> Key {
+pub(crate) fn key(seed: u32) -> Key {
     let outer = Some(stack(seed));
     match seed / 27 % 4 {
         0 => Key {
@@ -207,7 +207,7 @@ fn rule_of(way: u32, group: u32) -> RuleSpec {
     }
 }
 
-const fn call(op: Op) -> Call {
+pub(crate) const fn call(op: Op) -> Call {
     Call {
         at: At { line: 1, part: 1 },
         op,
