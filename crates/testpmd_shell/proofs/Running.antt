@@ -9,7 +9,7 @@ use Rattle.io_edges.specs.ShelfState.{ShelfState, SlotState}
 use Rattle.adapter.specs.Seen.{Seen}
 use Rattle.flow_grammar.specs.declared.part.Part.{Part}
 use Rattle.flow_grammar.specs.Program.{program_of}
-use Rattle.whole_history.specs.Reach.{program_asks_stop}
+use Rattle.whole_history.specs.Reach.{has_phase, program_asks_stop}
 use Rattle.whole_history.specs.Serial.{serial_from}
 use Rattle.history_text.specs.declared.ending.Ending.{Ending}
 use Rattle.history_text.specs.declared.ending.Ending.TheVariants as endings
@@ -17,7 +17,7 @@ use Rattle.testpmd_shell.specs.declared.feed.Feed.{Feed}
 use Rattle.testpmd_shell.specs.Options.{Given}
 use Rattle.testpmd_shell.specs.Feed.{IsReady, HasRead, HasEnded, IsFaultOf, CarriesFault}
 use Rattle.testpmd_shell.specs.Parts.{IsOpen, WasRead, MayRemain, RunsParts, StartsOver, ended_in, ending_in, taken_in}
-use Rattle.testpmd_shell.specs.Found.{Supply, ending_at, supply_of, supply_until_fault, supply_by, supply_in, no_supply, found_by, limits_of}
+use Rattle.testpmd_shell.specs.Found.{Supply, ending_at, supply_of, supply_until_fault, supply_by, supply_in, no_supply, found_by, is_over, limits_of}
 use Rattle.testpmd_shell.specs.Fetch.{Runs}
 
 -- What phases found of the capture: the frames that were taken, and what remains behind them.
@@ -241,3 +241,14 @@ pub HasRun-fault : (name : Option (List ℕ)) (start feed : Option Feed) (s t : 
     → CarriesFault (ending_in start) (ending_in feed) before now → IsFaultOf (ending_in feed) base now
 HasRun-fault name start feed s t base before now starts same carries =
     carries base (subst (λ ending. IsFaultOf ending base before) (sym (whole-start name start s t starts)) same)
+
+-- a script within its limits isn't over them
+pub within-sized : (known : Option (List ℕ)) (X : Type 0) → IfSome known (λ script. is_over script ≡ false) → IfSome known (λ script. is_over script ≡ true → X)
+within-sized None X within = tt
+within-sized (Some script) X within = λ over. not-both (is_over script) over within
+
+-- what holds of a program without phases holds where the script has none
+pub unread-reads : (known : Option (List ℕ)) (program : List Part) (X : Type 0) → IfSome known (λ script. program ≡ program_of script)
+    → (has_phase program ≡ false → X) → IfSome known (λ script. has_phase (program_of script) ≡ false → X)
+unread-reads None program X is unread = tt
+unread-reads (Some script) program X is unread = λ none. unread (ap has_phase is ∙ none)

@@ -1,6 +1,6 @@
 use Rattle.std.proofs.Common.{◌≡◌, ◌+◌, ◌∙◌, List, ℕ, IfSome, sym, ap, subst}
 use Rattle.capture_files.specs.Record.{Frame}
-use Rattle.io_edges.specs.ShelfState.{SlotState}
+use Rattle.io_edges.specs.ShelfState.{ShelfState, SlotState}
 use Rattle.adapter.specs.Seen.{Seen}
 use Rattle.flow_grammar.specs.declared.part.Part.{Part}
 use Rattle.history_text.specs.declared.ending.Ending.{Ending}
@@ -10,7 +10,8 @@ use Rattle.testpmd_shell.specs.Run.{early_faults}
 use Rattle.testpmd_shell.specs.Parts.{WasRead, RunsParts, ending_in}
 use Rattle.testpmd_shell.specs.Found.{found_in}
 use Rattle.testpmd_shell.specs.Fetch.{Runs}
-use Rattle.testpmd_shell.proofs.Running.{HasRun-runs, HasRun-fault}
+use Rattle.whole_history.specs.Reach.{has_phase}
+use Rattle.testpmd_shell.proofs.Running.{HasRun-runs, HasRun-fault, within-sized, unread-reads}
 use Rattle.testpmd_shell.proofs.fetch.fetch.Goals as goal
 
 pub returns-clause-ran : goal.returns-clause-ran
@@ -46,3 +47,18 @@ returns-clause-ran g c =
           (subst (λ (p : List Part). (content : List ℕ) → (frames : List Frame) → WasRead start s2 content frames → RunsParts p start feed t content frames opened after)
           c.as_slice.ensures c.in_ok-run_parts.ensures.runs));
     }
+
+pub returns-in_err-run_parts-clause-sized : goal.returns-in_err-run_parts-clause-sized
+returns-in_err-run_parts-clause-sized g c =
+    let s = g.S.Shelf.state c.args.shelf.now in
+    let t = g.S.Shelf.state c.run_parts.new.shelf in
+    within-sized (s.contents (given_of c.args.options.now).script) (t.capture ≡ s.capture) c.in_ok-program.ensures.within
+
+pub returns-in_err-run_parts-clause-reads : goal.returns-in_err-run_parts-clause-reads
+returns-in_err-run_parts-clause-reads g c =
+    let s = g.S.Shelf.state c.args.shelf.now in
+    let t = g.S.Shelf.state c.run_parts.new.shelf in
+    unread-reads (s.contents (given_of c.args.options.now).script) c.in_ok-program.program (t.capture.faults ≡ s.capture.faults) c.in_ok-program.ensures.program
+    (λ none. ap (λ (shelf : ShelfState). shelf.capture.faults) (c.in_err-run_parts.ensures.unread (ap has_phase c.as_slice.ensures ∙ none))
+    ∙ c.in_ok-feed.ensures.faults
+    ∙ ap (λ (slot : SlotState). slot.faults) c.in_ok-program.ensures.others.capture)
