@@ -2,7 +2,7 @@
 use crate::run::{ONE_QUEUE, THREE_QUEUES, TWO_QUEUES, Told, expect_told};
 use test_frames::{RSS_CHECK_FRAME, UDP_FRAME};
 
-const ROWS: [Told<'static>; 3] = [
+const ROWS: [Told<'static>; 5] = [
     (
         "each rule on a frame's way counts it with its captured length",
         &TWO_QUEUES,
@@ -72,6 +72,45 @@ shell 6.1: Packet forwarding started
 worker0 #2: queue 2 mark - hash - path 0
 shell 7.1: Packet forwarding stopped: received 2 dropped 0 queues 0,1,1
 total received 2 dropped 0 queues 0,1,1
+",
+    ),
+    (
+        "a rule names a shared counter once, an update of it is refused, and only its own query reads it",
+        &ONE_QUEUE,
+        "flow indirect_action 0 create action_id 5 ingress action count / end
+flow create 0 ingress pattern eth / end actions indirect 5 / indirect 5 / end
+flow indirect_action 0 update 5 action count / end
+flow create 0 ingress pattern eth / end actions indirect 5 / drop / end
+start
+stop
+flow query 0 0 count
+flow indirect_action 0 query 5
+",
+        &[(&UDP_FRAME, &[])],
+        "shell 1.1: Indirect action #5 created
+shell 2.1: Caught error type 16 (ACTION): action 1: counter named twice
+shell 3.1: Caught error type 16 (ACTION): action cannot be updated
+shell 4.1: Flow rule #0 created
+shell 5.1: Packet forwarding started
+worker0 #1: drop mark - hash - path 0
+shell 6.1: Packet forwarding stopped: received 1 dropped 1 queues 0
+shell 7.1: Caught error type 16 (ACTION): no counter to query
+shell 8.1: COUNT: hits 1 bytes 60
+total received 1 dropped 1 queues 0
+",
+    ),
+    (
+        "a shared action without an asked id gets the least one between two that are in use",
+        &ONE_QUEUE,
+        "flow indirect_action 0 create action_id 0 ingress action count / end
+flow indirect_action 0 create action_id 2 ingress action count / end
+flow indirect_action 0 create ingress action count / end
+",
+        &[],
+        "shell 1.1: Indirect action #0 created
+shell 2.1: Indirect action #2 created
+shell 3.1: Indirect action #1 created
+total received 0 dropped 0 queues 0
 ",
     ),
 ];
