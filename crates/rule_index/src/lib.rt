@@ -33,9 +33,10 @@
 //! of its group and priority, and a new table moves the turns behind its own.
 //!
 //! **Model.** Contracts see the rules in the order of their inserts, and the number of inserts. Only `insert` and
-//! `insert_shared` take memory, and where they find none all is as it was. What finds a rule takes some 300 bytes. The rule
-//! itself, of 7 KB, lies apart, for `rule` to lend and to be asked where a digest doesn't tell; `insert` copies it, and
-//! `insert_shared` shares it with all other indexes that get it, so that many workers hold one copy.
+//! `insert_shared` take memory, and where they find none all is as it was. What finds a rule takes some 160 bytes, and up to 600
+//! where rules came and went for long. The rule itself, of 7 KB, lies apart, for `rule` to lend and to be asked where a digest
+//! doesn't tell; `insert` copies it, and `insert_shared` shares it with all other indexes that get it, so that many workers
+//! hold one copy.
 //!
 //! **Not here**: the walk over groups, and changes that an index follows.
 #![tactic(auto)]
