@@ -108,7 +108,7 @@ fn took_effect(plain: &mut Plain, id: u32, op: &Op) -> Result<(), AllocError> {
     Ok(())
 }
 
-fn is_shared(plain: &mut Plain, id: u16, op: &Op) -> Result<(), AllocError> {
+fn was_shared(plain: &mut Plain, id: u16, op: &Op) -> Result<(), AllocError> {
     let Op::IndirectCreate { action, .. } = op else {
         return Ok(());
     };
@@ -132,7 +132,7 @@ fn is_own_count(action: &Action) -> bool {
 fn fold_call(plain: &mut Plain, op: &Op, reply: &Reply) -> Result<(), AllocError> {
     match reply {
         Reply::Created(id) => took_effect(plain, *id, op)?,
-        Reply::IndirectCreated(id) => is_shared(plain, *id, op)?,
+        Reply::IndirectCreated(id) => was_shared(plain, *id, op)?,
         Reply::Destroyed(id) => plain.rules.retain(|rule| rule.id != *id),
         Reply::IndirectDestroyed(id) => plain.objects.retain(|object| object.id != *id),
         Reply::Flushed => plain.rules.clear(),
