@@ -91,7 +91,7 @@ impl Format {
 
 /// The form of a file with that header, or what is wrong with the header.
 pub fn read_header(header: &[u8]) -> Result<Format, Stop>
-    requires { length header.now ≡ HEADER_LEN }
+    requires { length header.now ≡ 24 }
     ensures { result ≡ header_of header.now }
 {
     let Some(format) = Format::of_magic(header) else {

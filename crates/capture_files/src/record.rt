@@ -37,7 +37,7 @@ pub struct RecordHeader {
 
 impl RecordHeader {
     pub fn read(format: Format, header: &[u8]) -> RecordHeader
-        requires { length header.now ≡ RECORD_HEADER_LEN }
+        requires { length header.now ≡ 16 }
         ensures { result ≡ record_header format header.now }
     {
         RecordHeader {

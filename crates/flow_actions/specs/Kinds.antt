@@ -1,5 +1,5 @@
--- The kind of an action, which kinds say where a frame goes, and which rules can share.
-use Rattle.std.specs.Prelude.{Bool, true, false}
+-- The kind of an action and the number of a kind; which kinds say where a frame goes, and which rules can share.
+use Rattle.std.specs.Prelude.{ℕ, Bool, true, false}
 use Rattle.packet_headers.specs.declared.edits.Edit.{Edit}
 use Rattle.packet_headers.specs.declared.edits.Edit.TheVariants as edits
 use Rattle.flow_actions.specs.declared.action.Action.{Action}
@@ -30,6 +30,28 @@ kind_of (actions.Mark mark) = kinds.Mark
 kind_of actions.Count = kinds.Count
 kind_of (actions.Indirect id) = kinds.Indirect
 kind_of (actions.Set edit) = kind_of_edit edit
+
+-- the number of a kind; two kinds that have one number are the same
+abbrev pub action_number : ActionKind → ℕ
+action_number kinds.Void = 0
+action_number kinds.Queue = 1
+action_number kinds.Rss = 2
+action_number kinds.Drop = 3
+action_number kinds.Jump = 4
+action_number kinds.Mark = 5
+action_number kinds.Count = 6
+action_number kinds.Indirect = 7
+action_number kinds.MacSrc = 8
+action_number kinds.MacDst = 9
+action_number kinds.Ipv4Src = 10
+action_number kinds.Ipv4Dst = 11
+action_number kinds.Ipv6Src = 12
+action_number kinds.Ipv6Dst = 13
+action_number kinds.PortSrc = 14
+action_number kinds.PortDst = 15
+action_number kinds.DecTtl = 16
+action_number kinds.SetTtl = 17
+action_number kinds.SetVid = 18
 
 abbrev pub is_fate : ActionKind → Bool
 is_fate kinds.Queue = true

@@ -50,6 +50,20 @@ fit-good group actions.Count good = tt
 fit-good group (actions.Indirect id) good = tt
 fit-good group (actions.Set edit) good = good
 
+-- rules can't share an edit
+pub no-edit : (edit : Edit) → is_shareable (kind_of (actions.Set edit)) ≡ true → ⊥
+no-edit (edits.MacSrc n) e = cc
+no-edit (edits.MacDst n) e = cc
+no-edit (edits.Ipv4Src n) e = cc
+no-edit (edits.Ipv4Dst n) e = cc
+no-edit (edits.Ipv6Src n) e = cc
+no-edit (edits.Ipv6Dst n) e = cc
+no-edit (edits.PortSrc n) e = cc
+no-edit (edits.PortDst n) e = cc
+no-edit edits.DecTtl e = cc
+no-edit (edits.SetTtl n) e = cc
+no-edit (edits.SetVid n) e = cc
+
 pub fit-shared : (rxq : ℕ) (action : Action) → rxq ≤ 256 → IsSharedOn rxq action → IsFit action
 fit-shared rxq actions.Void most on = tt
 fit-shared rxq (actions.Queue queue) most on = omega (arith, most, on.1)
@@ -59,16 +73,4 @@ fit-shared rxq (actions.Rss rss) most on = λ k d within. omega (arith, most, on
 fit-shared rxq (actions.Mark mark) most on = tt
 fit-shared rxq actions.Count most on = tt
 fit-shared rxq (actions.Indirect id) most on = tt
-fit-shared rxq (actions.Set edit) most on = absurd (no-edit edit on.0) where
-  no-edit : (edit : Edit) → is_shareable (kind_of (actions.Set edit)) ≡ true → ⊥
-  no-edit (edits.MacSrc n) e = cc
-  no-edit (edits.MacDst n) e = cc
-  no-edit (edits.Ipv4Src n) e = cc
-  no-edit (edits.Ipv4Dst n) e = cc
-  no-edit (edits.Ipv6Src n) e = cc
-  no-edit (edits.Ipv6Dst n) e = cc
-  no-edit (edits.PortSrc n) e = cc
-  no-edit (edits.PortDst n) e = cc
-  no-edit edits.DecTtl e = cc
-  no-edit (edits.SetTtl n) e = cc
-  no-edit (edits.SetVid n) e = cc
+fit-shared rxq (actions.Set edit) most on = absurd (no-edit edit on.0)

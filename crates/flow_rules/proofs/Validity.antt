@@ -16,10 +16,12 @@ use Rattle.flow_rules.specs.declared.spec.Attr.{Attr}
 use Rattle.flow_rules.specs.declared.fault.Fault.{Fault}
 use Rattle.flow_rules.specs.declared.fault.Cause.{Cause}
 use Rattle.flow_rules.specs.declared.fault.Cause.TheVariants as causes
-use Rattle.flow_rules.specs.Faults.{Kinds, first, is_too_wide, lacks_item, is_unknown, is_fate_in, is_named_before, fault_if, attr_faults, direction_faults, item_fault, is_bad, action_faults, first_fault}
+use Rattle.flow_rules.specs.Faults.{Kinds, first, is_too_wide, lacks_item, is_unknown, is_fate_in, is_named_before, fault_if, attr_faults, direction_faults, item_fault, is_bad, action_faults, first_fault, rule_of}
 use Rattle.flow_rules.specs.declared.limits.Limits.{Limits}
 use Rattle.flow_rules.specs.declared.spec.RuleSpec.{RuleSpec}
 use Rattle.pattern_items.specs.Faults.{faults_of}
+use Rattle.flow_rules.specs.Lawful.{kinds_in, MayTakeEffect}
+use Rattle.flow_rules.specs.Walk.{Flows}
 use Rattle.flow_rules.specs.Valid.{IsGood, IsValid, IsOnPort, has_fate}
 
 pub first_here : (xs ys : List Fault) (fault : Fault) → first xs ≡ Some fault → first (xs ++ ys) ≡ Some fault
@@ -73,6 +75,7 @@ good rxq group (actions.Set edit) most fine = lawful edit fine
 
 -- the parts of the faults behind the first action
 record Clear (rxq : ℕ) (known : Kinds) (pattern : List Item) (group place : ℕ) (before : List Action) (action : Action) (list : List Action) : Type 0 where
+  known_one : is_unknown known action ≡ false
   value : is_bad rxq group action ≡ false
   fate : (is_fate_in known action && list_any (is_fate_in known) before) ≡ false
   others : first (action_faults rxq known pattern group (place + 1) (before ++ action ∷ []) list) ≡ None
@@ -90,6 +93,7 @@ clear rxq known pattern group place before action list none =
     let from_bad = first-right unknown (bad ++ (needs ++ (second ++ named))) (first-left here rest none) in
     let from_second = first-right needs (second ++ named) (first-right bad (needs ++ (second ++ named)) from_bad) in
     record {
+      known_one = first-if (is_unknown known action) causes.NoIndirect place (first-left unknown (bad ++ (needs ++ (second ++ named))) (first-left here rest none));
       value = first-if (is_bad rxq group action) causes.ActionConf place (first-left bad (needs ++ (second ++ named)) from_bad);
       fate = first-if (is_fate_in known action && list_any (is_fate_in known) before) causes.SecondFate place (first-left second named from_second);
       others = first-right here rest none;
@@ -121,23 +125,24 @@ or_nothing false = refl
 false-not-true : false ≡ true → ⊥
 false-not-true e = cc
 
--- a fate that stands before them counts too
-pub one_fate : (rxq : ℕ) (known : Kinds) (pattern : List Item) (group place : ℕ) (before list : List Action)
-    → first (action_faults rxq known pattern group place before list) ≡ None → count_by has_fate list + cond (list_any (is_fate_in known) before) 1 0 ≤ 1
-one_fate rxq known pattern group place before [] none = at_most (list_any (is_fate_in known) before) where
+-- of actions that count as fates there is one, and a fate that stands before them counts too
+one_of : (rxq : ℕ) (known : Kinds) (counts : Action → Bool) → ((action : Action) → counts action ≡ true → is_fate_in known action ≡ true)
+    → (pattern : List Item) (group place : ℕ) (before list : List Action) → first (action_faults rxq known pattern group place before list) ≡ None
+    → count_by counts list + cond (list_any (is_fate_in known) before) 1 0 ≤ 1
+one_of rxq known counts are pattern group place before [] none = at_most (list_any (is_fate_in known) before) where
   at_most : (fated : Bool) → 0 + cond fated 1 0 ≤ 1
   at_most true = omega arith
   at_most false = omega arith
-one_fate rxq known pattern group place before (action ∷ list) none =
+one_of rxq known counts are pattern group place before (action ∷ list) none =
     let c = clear rxq known pattern group place before action list none in
     let fated = list_any (is_fate_in known) before in
-    let split : count_by has_fate (action ∷ list) ≡ cond (has_fate action) 1 0 + count_by has_fate list =
-    sum_by-append (λ a. cond (has_fate a) 1 0) (action ∷ []) list ∙ ap (λ n. n + count_by has_fate list) (zero-add (cond (has_fate action) 1 0)) in
+    let split : count_by counts (action ∷ list) ≡ cond (counts action) 1 0 + count_by counts list =
+    sum_by-append (λ a. cond (counts a) 1 0) (action ∷ []) list ∙ ap (λ n. n + count_by counts list) (zero-add (cond (counts action) 1 0)) in
     let with_this : list_any (is_fate_in known) (before ++ action ∷ []) ≡ (fated || is_fate_in known action) =
     list_any-append (is_fate_in known) before (action ∷ []) ∙ ap (λ b. fated || b) (or_nothing (is_fate_in known action)) in
     subst (λ n. n + cond fated 1 0 ≤ 1) (sym split)
-    (step fated (is_fate_in known action) (has_fate action) (count_by has_fate list) (own_counts known action) c.fate
-    (subst (λ b. count_by has_fate list + cond b 1 0 ≤ 1) with_this (one_fate rxq known pattern group (place + 1) (before ++ action ∷ []) list c.others))) where
+    (step fated (is_fate_in known action) (counts action) (count_by counts list) (are action) c.fate
+    (subst (λ b. count_by counts list + cond b 1 0 ≤ 1) with_this (one_of rxq known counts are pattern group (place + 1) (before ++ action ∷ []) list c.others))) where
       step : (fated here own : Bool) (n : ℕ) → (own ≡ true → here ≡ true) → (here && fated) ≡ false → n + cond (fated || here) 1 0 ≤ 1 → (cond own 1 0 + n) + cond fated 1 0 ≤ 1
       step true true own n counts fine most = cc
       step true false true n counts fine most = absurd (false-not-true (counts refl))
@@ -146,6 +151,10 @@ one_fate rxq known pattern group place before (action ∷ list) none =
       step false true false n counts fine most = omega (arith, most)
       step false false true n counts fine most = absurd (false-not-true (counts refl))
       step false false false n counts fine most = omega (arith, most)
+
+pub one_fate : (rxq : ℕ) (known : Kinds) (pattern : List Item) (group place : ℕ) (before list : List Action)
+    → first (action_faults rxq known pattern group place before list) ≡ None → count_by has_fate list + cond (list_any (is_fate_in known) before) 1 0 ≤ 1
+one_fate rxq known pattern group place before list none = one_of rxq known has_fate (own_counts known) pattern group place before list none
 
 pub IsValid-clear : (attr : Attr) (list : List Action) → first (attr_faults attr) ≡ None → length list ≤ 16 → All (IsGood attr.group) list → count_by has_fate list ≤ 1
     → IsValid attr.group attr.priority list
@@ -180,11 +189,43 @@ all_on_port rxq known pattern group place before (action ∷ list) none =
     let c = clear rxq known pattern group place before action list none in
     All-cons (IsOnPort rxq) action list (on_port rxq group action c.value) (all_on_port rxq known pattern group (place + 1) (before ++ action ∷ []) list c.others)
 
--- the queues of a rule without a fault are the port's
-pub on_port-clear : (limits : Limits) (known : Kinds) (spec : RuleSpec) → first_fault limits known spec ≡ None → All (IsOnPort limits.rxq) spec.actions.list.items
-on_port-clear limits known spec none =
+all_known : (rxq : ℕ) (known : Kinds) (pattern : List Item) (group place : ℕ) (before list : List Action)
+    → first (action_faults rxq known pattern group place before list) ≡ None → All (λ action. is_unknown known action ≡ false) list
+all_known rxq known pattern group place before [] none = All-nil (λ action. is_unknown known action ≡ false)
+all_known rxq known pattern group place before (action ∷ list) none =
+    let c = clear rxq known pattern group place before action list none in
+    All-cons (λ a. is_unknown known a ≡ false) action list c.known_one (all_known rxq known pattern group (place + 1) (before ++ action ∷ []) list c.others)
+
+-- the actions of a rule without a fault have none
+actions-clear : (limits : Limits) (known : Kinds) (spec : RuleSpec) → first_fault limits known spec ≡ None
+    → first (action_faults limits.rxq known spec.pattern.items.items spec.attr.group 0 [] spec.actions.list.items) ≡ None
+actions-clear limits known spec none =
     let list = action_faults limits.rxq known spec.pattern.items.items spec.attr.group 0 [] spec.actions.list.items in
     let more = fault_if (nat_lt 0 spec.actions.more) causes.TooManyActions 0 in
     let items = map item_fault (faults_of spec.pattern) in
-    all_on_port limits.rxq known spec.pattern.items.items spec.attr.group 0 [] spec.actions.list.items
-    (first-right more list (first-right items (more ++ list) (first-right (attr_faults spec.attr) (items ++ (more ++ list)) none)))
+    first-right more list (first-right items (more ++ list) (first-right (attr_faults spec.attr) (items ++ (more ++ list)) none))
+
+-- the queues of a rule without a fault are the port's
+pub on_port-clear : (limits : Limits) (known : Kinds) (spec : RuleSpec) → first_fault limits known spec ≡ None → All (IsOnPort limits.rxq) spec.actions.list.items
+on_port-clear limits known spec none =
+    all_on_port limits.rxq known spec.pattern.items.items spec.attr.group 0 [] spec.actions.list.items (actions-clear limits known spec none)
+
+-- a rule without a fault may take effect, where there is room for it
+pub may_take-clear : (limits : Limits) (flows : Flows) (id : ℕ) (spec : RuleSpec) → limits.rxq ≤ 256 → length spec.actions.list.items ≤ 16
+    → first_fault limits (kinds_in flows.shared) spec ≡ None → length flows.rules < 131072 → MayTakeEffect limits.rxq flows (rule_of id spec)
+may_take-clear limits flows id spec most few none room =
+    let known = kinds_in flows.shared in
+    let pattern = spec.pattern.items.items in
+    let list = spec.actions.list.items in
+    let clear_actions = actions-clear limits known spec none in
+    let others = map item_fault (faults_of spec.pattern)
+    ++ (fault_if (nat_lt 0 spec.actions.more) causes.TooManyActions 0 ++ action_faults limits.rxq known pattern spec.attr.group 0 [] list) in
+    let own = one_fate limits.rxq known pattern spec.attr.group 0 [] list clear_actions in
+    let one = one_of limits.rxq known (is_fate_in known) (λ action e. e) pattern spec.attr.group 0 [] list clear_actions in
+    record {
+      valid = IsValid-clear spec.attr list (first-left (attr_faults spec.attr) others none) few (values limits.rxq known pattern spec.attr.group 0 [] list most clear_actions) (omega (arith, own));
+      on_port = on_port-clear limits known spec none;
+      named = all_known limits.rxq known pattern spec.attr.group 0 [] list clear_actions;
+      one_fate = omega (arith, one);
+      room = room;
+    }

@@ -2,6 +2,8 @@ pub mod Best
 pub mod Changes
 pub mod ErrorTypes
 pub mod Faults
+pub mod Lawful
+pub mod Limits
 pub mod Naming
 pub mod OnPort
 pub mod RuleView

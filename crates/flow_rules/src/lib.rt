@@ -32,6 +32,11 @@
 //! in a later group. No header is found anew. The code walks over the key as it came, and makes a copy of its own only where an
 //! edit stands.
 //!
+//! What packets see changes in steps (`specs/Changes`): a rule takes effect, or goes, and so on. **Lawful changes** (`specs/Lawful`)
+//! are those that a port makes: behind each of them all rules and shared values are valid on the port, and each rule names only
+//! shared actions that are in effect, with one fate at most. A rule that takes effect has an id that none has. A rule is large,
+//! so a change shares it with all who keep it.
+//!
 //! The model: a rule is plain data, with the test that its pattern makes. Nothing here takes memory.
 #![tactic(auto)]
 
@@ -50,9 +55,14 @@ pub use change::Change;
 pub use counter::{Count, Counter};
 pub use fault::{Cause, ErrorType, Fault, TplFault};
 pub use known::Known;
-pub use laws::{counters_are_few, counters_are_named_by_the_path, more_visits_change_nothing};
+pub use laws::{
+    changes_keep_what_may_be_in_effect, counters_are_few, counters_are_named_by_the_path,
+    lawful_changes_come_in_parts, more_visits_change_nothing,
+};
 pub use limits::Limits;
 pub use rule::Rule;
 pub use spec::{Attr, RuleSpec};
-pub use validation::{action_fault, attr_fault, direction_fault, is_bad_value, validate};
+pub use validation::{
+    action_fault, attr_fault, direction_fault, has_count, is_bad_value, is_count, validate,
+};
 pub use walk::{FlowsInEffect, classify};

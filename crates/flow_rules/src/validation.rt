@@ -284,7 +284,7 @@ fn has_fate<N: Known>(known: &N, list: &[Action]) -> bool
 }
 
 /// Whether one of the actions counts frames for its own rule.
-fn has_count(list: &[Action]) -> bool
+pub fn has_count(list: &[Action]) -> bool
     ensures { result ≡ list_any is_count list.now }
 {
     list.iter().any(|action| is_count(action))
@@ -315,7 +315,7 @@ fn is_named_before(before: &[Action], action: &Action) -> bool
 }
 
 /// Whether an action counts frames for its own rule.
-fn is_count(action: &Action) -> bool
+pub fn is_count(action: &Action) -> bool
     ensures { result ≡ is_count action.now }
 {
     matches!(action, Action::Count)

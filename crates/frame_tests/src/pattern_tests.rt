@@ -12,6 +12,7 @@ use test_frames::{
     DOUBLE_TAGGED_UDP_FRAME, IPV6_FRAME, RSS_CHECK_FRAME, RUNT_FRAME, TAGGED_UDP_FRAME, UDP_FRAME,
     VXLAN_FRAME,
 };
+use test_rules::{any, pattern_of};
 
 const NONE: Fields = Fields { v: [0; 6] };
 
@@ -35,16 +36,6 @@ const IPV6_DST: usize = 5;
 const PORT_DST: usize = 1;
 
 const VNI: usize = 0;
-
-/// An item that tests no field.
-const fn any(kind: ItemKind) -> Item {
-    Item {
-        kind,
-        given: None,
-        last: None,
-        mask: None,
-    }
-}
 
 /// One number, and 0 at each other field.
 fn one(field: usize, number: u128) -> Fields
@@ -76,18 +67,6 @@ fn range(kind: ItemKind, field: usize, spec: u128, last: u128, mask: u128) -> It
         given: Some(one(field, spec)),
         last: Some(one(field, last)),
         mask: Some(one(field, mask)),
-    }
-}
-
-fn pattern_of(rt: &impl Abort, items: &[Item]) -> Pattern {
-    let mut list = ArrayVec::new();
-    for item in items {
-        assert!(rt; list.len() < MAX_ITEMS);
-        list.push(*item);
-    }
-    Pattern {
-        items: list,
-        more: 0,
     }
 }
 
@@ -163,7 +142,7 @@ type Row<'a> = (&'a str, &'a [Item], [u8; 6]);
 
 fn has_rows(rt: &impl Abort, rows: &[Row<'_>]) {
     for (name, items, is_match) in rows {
-        has_row(rt, name, &pattern_of(rt, items), *is_match);
+        has_row(rt, name, &pattern_of(items), *is_match);
     }
 }
 
@@ -281,7 +260,7 @@ fn inner_headers_match_behind_vxlan_alone(rt: HostRuntime) {
             ("vxlan_frame", &VXLAN_FRAME, is_match),
             ("without its flag", &unflagged, 0),
         ];
-        has_matches(&rt, name, &pattern_of(&rt, items), &frames);
+        has_matches(&rt, name, &pattern_of(items), &frames);
     }
 }
 
@@ -301,7 +280,7 @@ fn the_mask_is_applied_before_a_range(rt: HostRuntime) {
     has_matches(
         &rt,
         "10.1.2.3 to 10.3.4.5 by 255.255.0.0",
-        &pattern_of(&rt, &[sources]),
+        &pattern_of(&[sources]),
         &[
             ("10.1.0.0", &from([10, 1, 0, 0]), 1),
             ("10.2.0.255", &from([10, 2, 0, 255]), 1),
@@ -356,7 +335,7 @@ fn a_prefix_matches_its_addresses(rt: HostRuntime) {
     has_matches(
         &rt,
         "ipv6 dst fe80:: prefix 64",
-        &pattern_of(&rt, &[prefix]),
+        &pattern_of(&[prefix]),
         &[
             ("fe80::", &to(0, 0), 1),
             ("fe80::ffff:ffff:ffff:ffff", &to(0, 0xff), 1),
@@ -475,19 +454,19 @@ fn numbers_that_do_not_fit_together_are_refused(rt: HostRuntime) {
         ),
     ];
     for (name, items, fault) in rows {
-        assert_eq!(rt; compile(&pattern_of(&rt, items)).err(), fault, "{name}");
+        assert_eq!(rt; compile(&pattern_of(items)).err(), fault, "{name}");
     }
 }
 
 #[test]
 fn too_many_items_come_first(rt: HostRuntime) {
-    let mut pattern = pattern_of(&rt, &[any(ItemKind::Eth), any(ItemKind::Udp)]);
+    let mut pattern = pattern_of(&[any(ItemKind::Eth), any(ItemKind::Udp)]);
     assert_eq!(rt; compile(&pattern).err(), Some(ItemFault::Order(1)));
     pattern.more = 1;
     assert_eq!(rt; compile(&pattern).err(), Some(ItemFault::TooMany));
     pattern.more = 65535;
     assert_eq!(rt; compile(&pattern).err(), Some(ItemFault::TooMany));
-    let full = pattern_of(&rt, &[any(ItemKind::Void); 16]);
+    let full = pattern_of(&[any(ItemKind::Void); 16]);
     assert_eq!(rt; compile(&full).err(), None);
 }
 
@@ -526,7 +505,7 @@ fn kinds_stand_behind_kinds_as_in_the_table(rt: HostRuntime) {
                 Some(ItemFault::Order(1))
             };
             assert_eq!(rt;
-                compile(&pattern_of(&rt, &items)).err(),
+                compile(&pattern_of(&items)).err(),
                 fault,
                 "{second} behind {first}"
             );
@@ -535,7 +514,7 @@ fn kinds_stand_behind_kinds_as_in_the_table(rt: HostRuntime) {
 }
 
 fn shape_of(rt: &impl Abort, name: &str, items: &[Item]) -> Option<Shape> {
-    test_of(rt, name, &pattern_of(rt, items)).masked()
+    test_of(rt, name, &pattern_of(items)).masked()
 }
 
 fn is_shape(shape: &Shape, kinds: &[ItemKind], masks: &[Fields], values: &[Fields]) -> bool {

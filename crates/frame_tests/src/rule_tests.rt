@@ -1,10 +1,11 @@
 //! Rules as asked for, and their first faults.
 use arrayvec::ArrayVec;
-use flow_actions::{Action, ActionKind, Actions, Rss};
-use flow_rules::{Attr, Cause, Fault, Known, Limits, RuleSpec, validate};
+use flow_actions::{Action, Actions, Rss};
+use flow_rules::{Attr, Cause, Fault, Limits, RuleSpec, validate};
 use packet_headers::{Edit, ItemKind};
 use pattern_items::{Fields, Item, Pattern};
 use std::process::Abort;
+use test_rules::{NoneShared, actions_of, ingress, pattern_of_kinds};
 
 /// What is wrong with a rule.
 #[derive(Clone, Copy, Debug, PartialEq, Eq)]
@@ -125,26 +126,13 @@ fn rule(pair: Pair) -> RuleSpec {
     }
 }
 
-/// No action is shared.
-struct Nothing;
-
-impl Known for Nothing {
-    ghost use Rattle.std.specs.Prelude.{None};
-
-    ghost kinds = { λ _ _. None };
-
-    fn kind_of(&self, _id: u32) -> Option<ActionKind> {
-        None
-    }
-}
-
 const LIMITS: Limits = Limits {
     rxq: 2,
     flow_max: 1,
 };
 
 fn expect_fault(rt: &impl Abort, pair: Pair, cause: Cause, at: u16) {
-    let found = validate(&rule(pair), &LIMITS, &Nothing, 7);
+    let found = validate(&rule(pair), &LIMITS, &NoneShared, 7);
     match found {
         Ok(_) => panic!(rt; "{pair:?} was taken"),
         Err(fault) => assert!(rt; fault == Fault { cause, at }, "{pair:?}"),
@@ -253,30 +241,17 @@ fn tried(trial: Trial) -> Action {
     }
 }
 
-fn rule_of(rt: &impl Abort, asked: Asked) -> RuleSpec {
+fn rule_of(asked: Asked) -> RuleSpec {
     let (kinds, trial) = asked;
-    let mut items = ArrayVec::new();
-    for kind in kinds {
-        assert!(rt; !items.is_full());
-        items.push(Item {
-            kind: *kind,
-            given: None,
-            last: None,
-            mask: None,
-        });
+    RuleSpec {
+        attr: ingress(0, 0),
+        pattern: pattern_of_kinds(kinds),
+        actions: actions_of(&[Action::Mark(7), tried(trial)]),
     }
-    let mut list = ArrayVec::new();
-    list.push(Action::Mark(7));
-    list.push(tried(trial));
-    let mut spec = rule((Trouble::Group, Trouble::Group));
-    spec.attr.group = 0;
-    spec.pattern = Pattern { items, more: 0 };
-    spec.actions = Actions { list, more: 0 };
-    spec
 }
 
 fn fault_of(rt: &impl Abort, asked: Asked) -> Option<Cause> {
-    match validate(&rule_of(rt, asked), &LIMITS, &Nothing, 7) {
+    match validate(&rule_of(asked), &LIMITS, &NoneShared, 7) {
         Ok(_) => None,
         Err(fault) => {
             assert_eq!(rt; fault.at, 1);

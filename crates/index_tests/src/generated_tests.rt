@@ -2,7 +2,7 @@
 //!
 //! A pattern is made of the layers of a frame, so that many of them match: some of its kinds, and for each field the frame's
 //! own number or another one, by one of several masks, or a range from it on.
-use crate::made::{any, made, put};
+use crate::made::{made, put};
 use arrayvec::ArrayVec;
 use flow_rules::Rule;
 use packet_headers::{ItemKind, Key, Layer, parse};
@@ -16,6 +16,7 @@ use std::test::Fail;
 use test_frames::{
     DOUBLE_TAGGED_UDP_FRAME, IPV6_FRAME, RSS_CHECK_FRAME, TAGGED_UDP_FRAME, UDP_FRAME, VXLAN_FRAME,
 };
+use test_rules::any;
 
 const STEPS: u64 = 3_000;
 

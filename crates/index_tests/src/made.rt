@@ -1,28 +1,14 @@
 //! Rules as the tests ask for them.
 ghost use Rattle.std.specs.Prelude.{◌≡◌, ◌<◌};
 
-use arrayvec::ArrayVec;
-use flow_actions::{ActionKind, Actions};
-use flow_rules::{Attr, Known, Limits, Rule, RuleSpec, validate};
+use flow_rules::{Limits, Rule, RuleSpec, validate};
 use packet_headers::ItemKind;
-use pattern_items::{Fields, Item, MAX_ITEMS, Pattern};
+use pattern_items::{Fields, Item};
 use rule_index::RuleIndex;
 use std::alloc::{AllocError, Global};
 use std::process::Abort;
 use std::sync::Arc;
-
-/// No action is shared.
-pub struct NoneShared;
-
-impl Known for NoneShared {
-    ghost use Rattle.std.specs.Prelude.{None};
-
-    ghost kinds = { λ _ _. None };
-
-    fn kind_of(&self, _id: u32) -> Option<ActionKind> {
-        None
-    }
-}
+use test_rules::{NoneShared, actions_of, ingress, pattern_of};
 
 const LIMITS: Limits = Limits {
     rxq: 1,
@@ -30,16 +16,6 @@ const LIMITS: Limits = Limits {
 };
 
 const NONE: Fields = Fields { v: [0; 6] };
-
-/// An item that tests no field.
-pub fn any(kind: ItemKind) -> Item {
-    Item {
-        kind,
-        given: None,
-        last: None,
-        mask: None,
-    }
-}
 
 /// An item that asks for a field's number, or, where `last` isn't 0, for one up to that.
 pub fn asks(kind: ItemKind, field: usize, number: u128, last: u128) -> Item
@@ -59,33 +35,12 @@ pub fn asks(kind: ItemKind, field: usize, number: u128, last: u128) -> Item
     }
 }
 
-fn pattern_of(rt: &impl Abort, items: &[Item]) -> Pattern {
-    let mut list = ArrayVec::new();
-    for item in items {
-        assert!(rt; list.len() < MAX_ITEMS);
-        list.push(*item);
-    }
-    Pattern {
-        items: list,
-        more: 0,
-    }
-}
-
 /// The rule of these items, or none where they have a fault.
 pub fn made(rt: &impl Abort, id: u32, group: u32, priority: u32, items: &[Item]) -> Option<Rule> {
     let spec = RuleSpec {
-        attr: Attr {
-            group,
-            priority,
-            ingress: true,
-            egress: false,
-            transfer: false,
-        },
-        pattern: pattern_of(rt, items),
-        actions: Actions {
-            list: ArrayVec::new(),
-            more: 0,
-        },
+        attr: ingress(group, priority),
+        pattern: pattern_of(items),
+        actions: actions_of(&[]),
     };
     validate(&spec, &LIMITS, &NoneShared, id).ok()
 }

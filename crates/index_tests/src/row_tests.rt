@@ -1,7 +1,7 @@
 //! Which rule is the best, row by row, and how many rules are compared.
 ghost use Rattle.std.specs.Prelude.{◌<◌};
 
-use crate::made::{any, asks, put, put_shared, rule};
+use crate::made::{asks, put, put_shared, rule};
 use flow_rules::Rule;
 use packet_headers::{ItemKind, Key, parse};
 use pattern_items::Fields;
@@ -11,6 +11,7 @@ use std::process::Abort;
 use std::sync::Arc;
 use std::test::Fail;
 use test_frames::{IPV6_FRAME, UDP_FRAME};
+use test_rules::any;
 
 const TTL: usize = 1;
 

@@ -1,11 +1,11 @@
 -- What follows where nothing is refused.
-use Rattle.std.proofs.Common.{◌≡◌, ℕ, ◌<◌, Bool, true, false, not, nat_le, is_some, length, List, [], ◌∷◌, ◌++◌, Option, None, Some, IsSome, refl}
+use Rattle.std.proofs.Common.{◌≡◌, ℕ, ◌<◌, Bool, true, false, ◌&&◌, not, nat_eq, nat_le, is_some, length, List, [], ◌∷◌, ◌++◌, Option, None, Some, IsSome, refl, ap, sym, ◌∙◌}
 use Rattle.std.specs.Option.{is_none}
 use Rattle.std.proofs.lemmas.Bool.{leb-false}
 use Rattle.flow_actions.specs.declared.action.Action.{Action}
 use Rattle.flow_actions.specs.declared.action.ActionKind.{ActionKind}
 use Rattle.flow_actions.specs.declared.action.ActionKind.TheVariants as kinds
-use Rattle.flow_actions.specs.Kinds.{kind_of, is_shareable}
+use Rattle.flow_actions.specs.Kinds.{kind_of, action_number, is_shareable}
 use Rattle.flow_rules.specs.declared.spec.Attr.{Attr}
 use Rattle.flow_rules.specs.declared.fault.Fault.{Fault}
 use Rattle.flow_rules.specs.declared.fault.Cause.{Cause}
@@ -83,6 +83,11 @@ CanAdd-clear rxq entries id attr value unused none =
       by (Some i) e = nothing (entry_at i entries) e
 
 -- of two kinds that are the same, one is as shareable as the other
+both : (a b : Bool) → a && b ≡ true → (a ≡ true) × (b ≡ true)
+both true true e = (refl, refl)
+both true false e = cc
+both false b e = cc
+
 same-kind : (kind other : ActionKind) → is_same_kind kind other ≡ true → kind ≡ other
 same-kind kinds.Queue kinds.Queue e = refl
 same-kind kinds.Rss kinds.Rss e = refl
@@ -91,11 +96,7 @@ same-kind kinds.Count kinds.Count e = refl
 same-kind _ _ e = cc
 
 shareable-same : (kind other : ActionKind) → is_same_kind kind other ≡ true → is_shareable other ≡ true
-shareable-same kinds.Queue kinds.Queue e = refl
-shareable-same kinds.Rss kinds.Rss e = refl
-shareable-same kinds.Mark kinds.Mark e = refl
-shareable-same kinds.Count kinds.Count e = refl
-shareable-same _ _ e = cc
+shareable-same kind other e = ap is_shareable (sym (same-kind kind other e)) ∙ (both (is_shareable kind) (nat_eq (action_number kind) (action_number other)) e).0
 
 -- what an update without a fault has
 pub record Fitting (rxq : ℕ) (old : Option SharedAction) (value : Action) : Type 0 where

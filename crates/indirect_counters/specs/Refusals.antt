@@ -1,10 +1,9 @@
 -- Why calls on shared actions are refused: all faults in order, and the first of them.
-use Rattle.std.specs.Prelude.{◌≡◌, ℕ, Bool, true, false, not, nat_lt, List, ◌++◌, Option, None, Some}
+use Rattle.std.specs.Prelude.{◌≡◌, ℕ, Bool, false, ◌&&◌, not, nat_eq, nat_lt, List, ◌++◌, Option, None, Some}
 use Rattle.std.specs.Option.{is_none}
 use Rattle.flow_actions.specs.declared.action.Action.{Action}
 use Rattle.flow_actions.specs.declared.action.ActionKind.{ActionKind}
-use Rattle.flow_actions.specs.declared.action.ActionKind.TheVariants as kinds
-use Rattle.flow_actions.specs.Kinds.{kind_of, is_shareable}
+use Rattle.flow_actions.specs.Kinds.{kind_of, action_number, is_shareable}
 use Rattle.flow_rules.specs.declared.spec.Attr.{Attr}
 use Rattle.flow_rules.specs.declared.fault.Fault.{Fault}
 use Rattle.flow_rules.specs.declared.fault.Cause.TheVariants as causes
@@ -28,11 +27,7 @@ create_fault rxq entries id attr action = first (create_faults rxq entries id at
 
 -- two of the kinds that rules can share are the same
 abbrev pub is_same_kind : ActionKind → ActionKind → Bool
-is_same_kind kinds.Queue kinds.Queue = true
-is_same_kind kinds.Rss kinds.Rss = true
-is_same_kind kinds.Mark kinds.Mark = true
-is_same_kind kinds.Count kinds.Count = true
-is_same_kind _ _ = false
+is_same_kind kind other = is_shareable kind && nat_eq (action_number kind) (action_number other)
 
 -- the action in effect, if there is one, is of another kind than the new value
 abbrev pub is_of_other_kind : Action → Option SharedAction → Bool

@@ -20,8 +20,8 @@ use object_ids::{id_fault, id_for};
 use std::alloc::{AllocError, Global};
 use std::marker::Model;
 
-/// How many shared actions there may be, held ones too.
-const MOST: usize = 1_024;
+/// The most shared actions, held ones too.
+const MAX_INDIRECTS: usize = 1_024;
 
 /// The actions that rules share.
 #[derive(Drop)]
@@ -141,7 +141,7 @@ impl Indirects {
     fn place_fault(&self, id: Option<u16>) -> Option<Fault>
         ensures { result ≡ first (id_faults 1024 id self.now.entries) }
     {
-        id_fault(&self.map, id, MOST)
+        id_fault(&self.map, id, MAX_INDIRECTS)
     }
 
     /// Takes memory for one more action.
@@ -319,27 +319,7 @@ impl Indirects {
 fn is_same_kind(kind: ActionKind, other: ActionKind) -> bool
     ensures { result ≡ is_same_kind kind other }
 {
-    match kind {
-        ActionKind::Queue => other == ActionKind::Queue,
-        ActionKind::Rss => other == ActionKind::Rss,
-        ActionKind::Mark => other == ActionKind::Mark,
-        ActionKind::Count => other == ActionKind::Count,
-        ActionKind::Void
-        | ActionKind::Drop
-        | ActionKind::Jump
-        | ActionKind::Indirect
-        | ActionKind::MacSrc
-        | ActionKind::MacDst
-        | ActionKind::Ipv4Src
-        | ActionKind::Ipv4Dst
-        | ActionKind::Ipv6Src
-        | ActionKind::Ipv6Dst
-        | ActionKind::PortSrc
-        | ActionKind::PortDst
-        | ActionKind::DecTtl
-        | ActionKind::SetTtl
-        | ActionKind::SetVid => false,
-    }
+    kind.is_shareable() && kind == other
 }
 
 /// A refusal, which names no place.

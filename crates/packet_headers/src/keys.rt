@@ -9,10 +9,8 @@ use arrayvec::ArrayVec;
 use std::alloc::AllocError;
 use std::marker::Model;
 
-/// The most headers of one Ethernet frame: itself, two tags, a network and a transport header.
-const STACK_LAYERS: usize = 5;
-
-/// The most layers of a key: two stacks, and VXLAN between them.
+/// The most layers of a key: two stacks, and VXLAN between them. A stack has at most 5, for Ethernet, two tags, a network and
+/// a transport header.
 const MAX_LAYERS: usize = 11;
 
 /// The headers of a frame, each with its offset.
@@ -90,9 +88,9 @@ impl Key {
 
 /// Appends the layers of a frame, if there is one.
 fn push_frame(list: &mut ArrayVec<LayerAt, MAX_LAYERS>, frame: &Option<Stack>)
-    requires { array_vec_len list.old + STACK_LAYERS ≤ MAX_LAYERS }
+    requires { array_vec_len list.old + 5 ≤ 11 }
     ensures items { list.new.items ≡ list.old.items ++ outer_layers frame.now }
-    ensures len { array_vec_len list.new ≤ array_vec_len list.old + STACK_LAYERS }
+    ensures len { array_vec_len list.new ≤ array_vec_len list.old + 5 }
 {
     if let Some(stack) = frame {
         list.push(stack.eth.layer());
@@ -103,7 +101,7 @@ fn push_frame(list: &mut ArrayVec<LayerAt, MAX_LAYERS>, frame: &Option<Stack>)
 }
 
 fn push_tags(list: &mut ArrayVec<LayerAt, MAX_LAYERS>, tags: &Tags)
-    requires { array_vec_len list.old + 2 ≤ MAX_LAYERS }
+    requires { array_vec_len list.old + 2 ≤ 11 }
     ensures items { list.new.items ≡ list.old.items ++ tag_layers tags.now }
     ensures len { array_vec_len list.new ≤ array_vec_len list.old + 2 }
 {
@@ -118,7 +116,7 @@ fn push_tags(list: &mut ArrayVec<LayerAt, MAX_LAYERS>, tags: &Tags)
 }
 
 fn push_network(list: &mut ArrayVec<LayerAt, MAX_LAYERS>, network: &Network)
-    requires { array_vec_len list.old + 1 ≤ MAX_LAYERS }
+    requires { array_vec_len list.old + 1 ≤ 11 }
     ensures items { list.new.items ≡ list.old.items ++ network_layers network.now }
     ensures len { array_vec_len list.new ≤ array_vec_len list.old + 1 }
 {
@@ -130,7 +128,7 @@ fn push_network(list: &mut ArrayVec<LayerAt, MAX_LAYERS>, network: &Network)
 }
 
 fn push_transport(list: &mut ArrayVec<LayerAt, MAX_LAYERS>, transport: &Transport)
-    requires { array_vec_len list.old + 1 ≤ MAX_LAYERS }
+    requires { array_vec_len list.old + 1 ≤ 11 }
     ensures items { list.new.items ≡ list.old.items ++ transport_layers transport.now }
     ensures len { array_vec_len list.new ≤ array_vec_len list.old + 1 }
 {

@@ -82,7 +82,7 @@ struct Reading<'a> {
 
 #[tactic(auto, unfolding(crate::specs::Layers::header))]
 fn read_eth(rest: &[u8], offset: usize, has_vlan: bool) -> Eth
-    requires room { ETH_LEN ≤ length rest.now }
+    requires room { 14 ≤ length rest.now }
     requires offset { offset < 256 }
     ensures { headers.eth_layer result ≡ header kind.Eth offset has_vlan rest.now }
 {
@@ -97,7 +97,7 @@ fn read_eth(rest: &[u8], offset: usize, has_vlan: bool) -> Eth
 
 #[tactic(auto, unfolding(crate::specs::Layers::header))]
 fn read_tag(rest: &[u8], offset: usize, has_more_vlan: bool) -> Tag
-    requires room { TAG_LEN ≤ length rest.now }
+    requires room { 4 ≤ length rest.now }
     requires offset { offset < 256 }
     ensures { headers.tag_layer result ≡ header kind.Vlan offset has_more_vlan rest.now }
 {
@@ -114,7 +114,7 @@ fn read_tag(rest: &[u8], offset: usize, has_more_vlan: bool) -> Tag
 
 #[tactic(auto, unfolding(crate::specs::Layers::header))]
 fn read_ipv4(rest: &[u8], offset: usize) -> Ipv4
-    requires room { IPV4_LEN ≤ length rest.now }
+    requires room { 20 ≤ length rest.now }
     requires offset { offset < 256 }
     ensures layer { headers.ipv4_layer result ≡ header kind.Ipv4 offset false rest.now }
     ensures proto { result.proto ≡ number_at 9 1 rest.now }
@@ -131,7 +131,7 @@ fn read_ipv4(rest: &[u8], offset: usize) -> Ipv4
 
 #[tactic(auto, unfolding(crate::specs::Layers::header))]
 fn read_ipv6(rest: &[u8], offset: usize) -> Ipv6
-    requires room { IPV6_LEN ≤ length rest.now }
+    requires room { 40 ≤ length rest.now }
     requires offset { offset < 256 }
     ensures layer { headers.ipv6_layer result ≡ header kind.Ipv6 offset false rest.now }
     ensures proto { result.proto ≡ number_at 6 1 rest.now }
@@ -150,7 +150,7 @@ fn read_ipv6(rest: &[u8], offset: usize) -> Ipv6
 
 #[tactic(auto, unfolding(crate::specs::Layers::header))]
 fn read_tcp(rest: &[u8], offset: usize) -> Tcp
-    requires room { TCP_LEN ≤ length rest.now }
+    requires room { 20 ≤ length rest.now }
     requires offset { offset < 256 }
     ensures { headers.tcp_layer result ≡ header kind.Tcp offset false rest.now }
 {
@@ -164,7 +164,7 @@ fn read_tcp(rest: &[u8], offset: usize) -> Tcp
 
 #[tactic(auto, unfolding(crate::specs::Layers::header))]
 fn read_udp(rest: &[u8], offset: usize) -> Udp
-    requires room { UDP_LEN ≤ length rest.now }
+    requires room { 8 ≤ length rest.now }
     requires offset { offset < 256 }
     ensures layer { headers.udp_layer result ≡ header kind.Udp offset false rest.now }
     ensures dst { result.dst ≡ number_at 2 2 rest.now }
@@ -178,7 +178,7 @@ fn read_udp(rest: &[u8], offset: usize) -> Udp
 
 #[tactic(auto, unfolding(crate::specs::Layers::header))]
 fn read_vxlan(rest: &[u8], offset: usize) -> Vxlan
-    requires room { VXLAN_LEN ≤ length rest.now }
+    requires room { 8 ≤ length rest.now }
     requires offset { offset < 256 }
     ensures { headers.vxlan_layer result ≡ header kind.Vxlan offset false rest.now }
 {
@@ -191,7 +191,7 @@ fn read_vxlan(rest: &[u8], offset: usize) -> Vxlan
 /// Whether a VLAN layer stands in the bytes that remain behind this type.
 fn is_tag(rest: &[u8], ether_type: u16) -> bool
     ensures tag { result ≡ tag_follows 1 ether_type rest.now }
-    ensures room { OnTrue result (TAG_LEN ≤ length rest.now) }
+    ensures room { OnTrue result (4 ≤ length rest.now) }
 {
     if ether_type == TAG_TYPE {
         return rest.len() >= TAG_LEN;
@@ -205,7 +205,7 @@ fn is_tag(rest: &[u8], ether_type: u16) -> bool
 /// Whether a whole IPv4 header with its options stands in the bytes that remain.
 fn is_ipv4(rest: &[u8]) -> bool
     ensures header { result ≡ is_ipv4 rest.now }
-    ensures room { OnTrue result (IPV4_LEN ≤ length rest.now) }
+    ensures room { OnTrue result (20 ≤ length rest.now) }
     ensures options { OnTrue result (words rest.now * 4 ≤ length rest.now) }
 {
     if rest.len() < IPV4_LEN {
@@ -225,7 +225,7 @@ fn is_ipv4(rest: &[u8]) -> bool
 /// Whether a whole IPv6 header stands in the bytes that remain.
 fn is_ipv6(rest: &[u8]) -> bool
     ensures header { result ≡ is_ipv6 rest.now }
-    ensures room { OnTrue result (IPV6_LEN ≤ length rest.now) }
+    ensures room { OnTrue result (40 ≤ length rest.now) }
 {
     if rest.len() < IPV6_LEN {
         return false;
@@ -280,7 +280,7 @@ fn read_transport(rest: &[u8], offset: usize, protocol: u8) -> Upper<'_>
 
 /// Whether an IPv4 header stands in front of the first bytes of what it carries.
 fn is_first_fragment(rest: &[u8]) -> bool
-    requires { IPV4_LEN ≤ length rest.now }
+    requires { 20 ≤ length rest.now }
     ensures { result ≡ is_first_fragment rest.now }
 {
     u16_at(rest, IPV4_FRAGMENT) % 8192 == 0
@@ -352,7 +352,7 @@ fn read_typed(rest: &[u8], offset: usize, ether_type: u16) -> Upper<'_>
 
 /// An Ethernet frame.
 fn read_frame(rest: &[u8], offset: usize) -> Reading<'_>
-    requires room { ETH_LEN ≤ length rest.now }
+    requires room { 14 ≤ length rest.now }
     requires offset { offset ≤ 98 }
     ensures layers { (inside : Payloads) → frame_reading inside result
         ≡ frame_layers inside offset rest.now }

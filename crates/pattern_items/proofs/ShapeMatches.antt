@@ -8,7 +8,8 @@ use Rattle.pattern_items.specs.declared.shape.Shape.{Shape}
 use Rattle.pattern_items.specs.declared.test.ItemTest.{ItemTest}
 use Rattle.pattern_items.specs.Conditions.{fits}
 use Rattle.pattern_items.specs.Order.{is_vlan, is_vxlan}
-use Rattle.pattern_items.specs.Matches.{is_of_kind, goes_on, begins}
+use Rattle.packet_headers.specs.Key.{is_of}
+use Rattle.pattern_items.specs.Matches.{goes_on, begins}
 use Rattle.pattern_items.specs.Rising.{AllRise}
 use Rattle.pattern_items.specs.Shape.{item_has_range, kind_of_test, masks_of_test, values_of_test, and_then, met_from, met_by, masked_by, all_masked_by, option_masked_by, numbers_in, shape_of}
 use Rattle.pattern_items.proofs.OneValue.{or_parts, both_true, values_where_fits, fits_where_values}
@@ -58,7 +59,7 @@ tells_goes_on [] ls one rise = record { on = λ e. refl; back = λ e. refl }
 tells_goes_on (i ∷ is) [] one rise = tells_none (map values_of_test (i ∷ is))
 tells_goes_on (i ∷ is) (l ∷ ls) one rise =
     let single = or_parts (item_has_range i) (list_any item_has_range is) one in
-    tells_if (is_of_kind i.kind l) (fits i.conditions.items l.layer.v && goes_on is ls) (is_vlan l.layer.kind && goes_on (i ∷ is) ls)
+    tells_if (is_of i.kind l) (fits i.conditions.items l.layer.v && goes_on is ls) (is_vlan l.layer.kind && goes_on (i ∷ is) ls)
     (map masks_of_test (i ∷ is)) (and_then l (met_from (map kind_of_test is) ls)) (if is_vlan l.layer.kind then met_from (map kind_of_test (i ∷ is)) ls else None) (map values_of_test (i ∷ is))
     (tells_layer (fits i.conditions.items l.layer.v) (goes_on is ls) (masks_of_test i) (values_of_test i) l (map masks_of_test is) (map values_of_test is) (met_from (map kind_of_test is) ls)
     (values_where_fits i l single.0) (fits_where_values i l single.0 rise.0) (tells_goes_on is ls single.1 rise.1))
@@ -70,7 +71,7 @@ tells_begins : (is : List ItemTest) (ls : List LayerAt) → list_any item_has_ra
 tells_begins [] ls one rise = record { on = λ e. refl; back = λ e. refl }
 tells_begins (i ∷ is) [] one rise = tells_none (map values_of_test (i ∷ is))
 tells_begins (i ∷ is) (l ∷ ls) one rise =
-    tells_if (is_of_kind i.kind l) (goes_on (i ∷ is) (l ∷ ls)) (not (is_vxlan l.layer.kind) && begins (i ∷ is) ls)
+    tells_if (is_of i.kind l) (goes_on (i ∷ is) (l ∷ ls)) (not (is_vxlan l.layer.kind) && begins (i ∷ is) ls)
     (map masks_of_test (i ∷ is)) (met_from (map kind_of_test (i ∷ is)) (l ∷ ls)) (if is_vxlan l.layer.kind then None else met_by (map kind_of_test (i ∷ is)) ls) (map values_of_test (i ∷ is))
     (tells_goes_on (i ∷ is) (l ∷ ls) one rise)
     (tells_not (is_vxlan l.layer.kind) (begins (i ∷ is) ls) (map masks_of_test (i ∷ is)) (met_by (map kind_of_test (i ∷ is)) ls) (map values_of_test (i ∷ is))

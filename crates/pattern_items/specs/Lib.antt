@@ -6,3 +6,4 @@ pub mod Matches
 pub mod Rising
 pub mod Shape
 pub mod Walk
+pub mod WalkEnd

@@ -9,7 +9,7 @@ use Rattle.pattern_items.specs.declared.shape.Shape.{Shape}
 use Rattle.pattern_items.specs.declared.test.Condition.{Condition}
 use Rattle.pattern_items.specs.declared.test.ItemTest.{ItemTest}
 use Rattle.pattern_items.specs.declared.test.Test.{Test}
-use Rattle.pattern_items.specs.Matches.{is_of_kind}
+use Rattle.packet_headers.specs.Key.{is_of}
 use Rattle.pattern_items.specs.Order.{is_vlan, is_vxlan}
 
 -- the condition makes a range of more than one number
@@ -58,7 +58,7 @@ abbrev pub met_from : List ItemKind → List LayerAt → Option (List LayerAt)
 met_from [] ls = Some []
 met_from (k ∷ ks) [] = None
 met_from (k ∷ ks) (l ∷ ls) =
-    if is_of_kind k l then and_then l (met_from ks ls)
+    if is_of k l then and_then l (met_from ks ls)
     else (if is_vlan l.layer.kind then met_from (k ∷ ks) ls else None)
 
 -- the same, where the first one's is looked for in the outer headers and at the VXLAN header
@@ -66,7 +66,7 @@ abbrev pub met_by : List ItemKind → List LayerAt → Option (List LayerAt)
 met_by [] ls = Some []
 met_by (k ∷ ks) [] = None
 met_by (k ∷ ks) (l ∷ ls) =
-    if is_of_kind k l then met_from (k ∷ ks) (l ∷ ls)
+    if is_of k l then met_from (k ∷ ks) (l ∷ ls)
     else (if is_vxlan l.layer.kind then None else met_by (k ∷ ks) ls)
 
 -- a layer's numbers, each by its mask

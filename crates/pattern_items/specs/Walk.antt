@@ -6,7 +6,15 @@ use Rattle.packet_headers.specs.declared.items.LayerAt.{LayerAt}
 use Rattle.pattern_items.specs.declared.test.ItemTest.{ItemTest}
 use Rattle.pattern_items.specs.Conditions.{fits}
 use Rattle.pattern_items.specs.Order.{is_vlan, is_vxlan}
-use Rattle.pattern_items.specs.Matches.{is_of_kind}
+use Rattle.packet_headers.specs.Key.{is_of}
+
+-- A walk over layers, whatever it gathers on its way: what a step makes of the way at one layer, or None where it comes
+-- to nothing.
+module _ {Way : Type 0} where
+  abbrev pub walk_by : (Way → LayerAt → Option Way) → Option Way → List LayerAt → Option Way
+  walk_by step None ls = None
+  walk_by step (Some way) [] = Some way
+  walk_by step (Some way) (l ∷ ls) = walk_by step (step way l) ls
 
 -- a layer of another kind than the item at hand: in front of the first item's layer all but VXLAN is passed over,
 -- behind it VLAN alone
@@ -16,7 +24,7 @@ passes met k = if nat_eq met 0 then not (is_vxlan k) else is_vlan k
 -- how many items are met behind a layer, where the walk goes on there, and an item is at hand
 abbrev pub meet : ItemTest → ℕ → LayerAt → Option ℕ
 meet i met l =
-    if is_of_kind i.kind l then (if fits i.conditions.items l.layer.v then Some (met + 1) else None)
+    if is_of i.kind l then (if fits i.conditions.items l.layer.v then Some (met + 1) else None)
     else (if passes met l.layer.kind then Some met else None)
 
 abbrev pub meet_any : Option ItemTest → ℕ → LayerAt → Option ℕ
@@ -28,9 +36,7 @@ abbrev pub step : List ItemTest → ℕ → LayerAt → Option ℕ
 step items met l = meet_any (slice_get items met) met l
 
 abbrev pub walk : List ItemTest → Option ℕ → List LayerAt → Option ℕ
-walk items None ls = None
-walk items (Some met) [] = Some met
-walk items (Some met) (l ∷ ls) = walk items (step items met l) ls
+walk items met ls = walk_by (step items) met ls
 
 -- all items are met
 abbrev pub all_met : List ItemTest → Option ℕ → Bool

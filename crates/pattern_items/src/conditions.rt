@@ -16,7 +16,7 @@ use packet_headers::{ItemKind, fields_of};
 #[tactic(auto, using(crate::proofs::FieldLists::fields_few))]
 pub fn field_count(kind: ItemKind) -> usize
     ensures count { result ≡ length (fields_of kind) }
-    ensures most { result ≤ MAX_FIELDS }
+    ensures most { result ≤ 6 }
 {
     fields_of(kind).len()
 }
@@ -36,7 +36,7 @@ pub fn default_mask(kind: ItemKind, field: usize) -> u128
 
 /// The mask of a field in an item.
 pub fn mask_of(item: &Item, field: usize) -> u128
-    requires { field < MAX_FIELDS }
+    requires { field < 6 }
     ensures { result ≡ slice_index (masks_of item.now) field }
 {
     match item.mask {
@@ -47,7 +47,7 @@ pub fn mask_of(item: &Item, field: usize) -> u128
 
 /// The end of a field's range in an item, and 0 where none is given.
 fn last_of(item: &Item, field: usize) -> u128
-    requires { field < MAX_FIELDS }
+    requires { field < 6 }
     ensures { result ≡ slice_index (lasts_of item.now) field }
 {
     match item.last {
@@ -58,7 +58,7 @@ fn last_of(item: &Item, field: usize) -> u128
 
 /// What an item with this `spec` asks of a field.
 fn condition(item: &Item, given: &Fields, field: usize) -> Condition
-    requires { field < MAX_FIELDS }
+    requires { field < 6 }
     ensures { result ≡ condition given.now.v (lasts_of item.now) (masks_of item.now) field }
 {
     let mask = mask_of(item, field);
@@ -92,7 +92,7 @@ fn conditions(item: &Item) -> ArrayVec<Condition, MAX_FIELDS>
 
 /// What the items but `Void` ask.
 pub fn tests_of(items: &[Item]) -> ArrayVec<ItemTest, MAX_ITEMS>
-    requires { length items.now ≤ MAX_ITEMS }
+    requires { length items.now ≤ 16 }
     ensures { result.items ≡ tests_of items.now }
 {
     let mut tests = ArrayVec::new();

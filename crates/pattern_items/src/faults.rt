@@ -10,8 +10,7 @@ ghost use Rattle.pattern_items.specs.Order.{nothing_before};
 use crate::conditions::{field_count, mask_of};
 use crate::fault::ItemFault;
 use crate::order::{Before, is_void};
-use crate::pattern::{Fields, Item, MAX_ITEMS};
-use crate::test::MAX_FIELDS;
+use crate::pattern::{Fields, Item};
 
 /// Whether an item has `last` or `mask` without `spec`.
 fn lacks_spec(item: &Item) -> bool
@@ -28,7 +27,7 @@ fn lacks_spec(item: &Item) -> bool
 
 /// Whether a field's range ends below its beginning.
 fn is_below(item: &Item, given: &Fields, last: &Fields, field: usize) -> bool
-    requires { field < MAX_FIELDS }
+    requires { field < 6 }
     ensures { result ≡ is_below given.now.v last.now.v (masks_of item.now) field }
 {
     let mask = mask_of(item, field);
@@ -83,7 +82,7 @@ fn fault_of_item(place: u16, before: &Before, item: &Item) -> Option<ItemFault>
 
 /// The first fault of these items.
 pub fn fault_of_items(items: &[Item]) -> Option<ItemFault>
-    requires { length items.now ≤ MAX_ITEMS }
+    requires { length items.now ≤ 16 }
     ensures { result ≡ first (faults_from 0 nothing_before items.now) }
 {
     let mut before = Before::nothing();

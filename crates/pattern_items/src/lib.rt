@@ -26,7 +26,8 @@
 //! that they are the guide's words. `matches` makes no layer: it walks a key's own headers, and
 //! keeps from one to the next how many items have met theirs, which is all that the rest of the
 //! match depends on (`specs/Walk.antt`). It reads no field but those of the conditions, stops where
-//! no match can come any more, and takes no memory.
+//! no match can come any more, and takes no memory. The walk says nothing of what is done at a
+//! header: `walk_key` goes over a key for any `Walker`, so an index makes its digest by it too.
 //!
 //! **Model.** A pattern is plain data. A test is the list of what its items ask, `Void` left out:
 //! that of a pattern is `test_of pattern`, it matches a key exactly where `accepts` says so of the
@@ -54,7 +55,9 @@ mod compiling;
 mod conditions;
 mod fault;
 mod faults;
+mod header;
 mod kinds;
+mod matching;
 mod order;
 mod pattern;
 mod shape;
@@ -64,6 +67,9 @@ mod walk;
 pub use compiling::compile;
 pub use conditions::{conditions_are_spec_last_and_mask, default_mask};
 pub use fault::ItemFault;
+pub use header::Header;
+pub use matching::{is_of_kind, passes};
 pub use pattern::{Fields, Item, MAX_ITEMS, Pattern};
 pub use shape::Shape;
 pub use test::Test;
+pub use walk::{Walker, walk_key};

@@ -84,7 +84,7 @@ fn values(item: &ItemTest) -> Fields
 
 /// The shape of the items, whether or not they make ranges.
 fn shape_of(items: &[ItemTest]) -> Shape
-    requires { length items.now ≤ MAX_ITEMS }
+    requires { length items.now ≤ 16 }
     ensures { result ≡ shape_of items.now }
 {
     let mut shape = Shape {

@@ -9,7 +9,7 @@ use Rattle.pattern_items.specs.declared.pattern.Pattern.{Pattern}
 use Rattle.pattern_items.specs.Faults.{is_void as is_void_item}
 use Rattle.flow_actions.specs.declared.action.Action.{Action}
 use Rattle.flow_actions.specs.declared.action.Actions.{Actions}
-use Rattle.flow_actions.specs.Kinds.{kind_of, is_void}
+use Rattle.flow_actions.specs.Kinds.{kind_of, is_void, action_number}
 use Rattle.flow_rules.specs.declared.spec.Attr.{Attr}
 use Rattle.flow_rules.specs.declared.spec.RuleSpec.{RuleSpec}
 use Rattle.flow_rules.specs.declared.fault.Cause.TheVariants as causes
@@ -19,7 +19,7 @@ use Rattle.rule_binding.specs.declared.template.ActionsTemplate.{ActionsTemplate
 use Rattle.rule_binding.specs.declared.template.PatternTemplate.{PatternTemplate}
 use Rattle.rule_binding.specs.declared.template.TemplateAction.{TemplateAction}
 use Rattle.rule_binding.specs.declared.template.TemplateItem.{TemplateItem}
-use Rattle.rule_binding.specs.Difference.{difference, action_number}
+use Rattle.rule_binding.specs.Difference.{difference}
 use Rattle.rule_binding.specs.Templates.{fault_at}
 
 -- the mask has a bit set

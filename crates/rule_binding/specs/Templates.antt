@@ -12,7 +12,7 @@ use Rattle.pattern_items.specs.Order.{nothing_before, before_next, may_stand}
 use Rattle.flow_actions.specs.declared.action.Action.{Action}
 use Rattle.flow_actions.specs.declared.action.ActionKind.{ActionKind}
 use Rattle.flow_actions.specs.declared.action.Actions.{Actions}
-use Rattle.flow_actions.specs.Kinds.{kind_of, is_void}
+use Rattle.flow_actions.specs.Kinds.{kind_of, is_void, action_number}
 use Rattle.flow_rules.specs.declared.spec.Attr.{Attr}
 use Rattle.flow_rules.specs.declared.fault.Cause.{Cause}
 use Rattle.flow_rules.specs.declared.fault.Cause.TheVariants as causes
@@ -23,7 +23,7 @@ use Rattle.rule_binding.specs.declared.template.Masks.{Masks}
 use Rattle.rule_binding.specs.declared.template.PatternTemplate.{PatternTemplate}
 use Rattle.rule_binding.specs.declared.template.TemplateAction.{TemplateAction}
 use Rattle.rule_binding.specs.declared.template.TemplateItem.{TemplateItem}
-use Rattle.rule_binding.specs.Difference.{difference, action_number}
+use Rattle.rule_binding.specs.Difference.{difference}
 
 -- The mask of a template's item is its own where it has one. It is the default mask where the item has only spec. Else the item
 -- has no mask.

@@ -117,7 +117,7 @@ fn bound_item(wanted: &TemplateItem, item: &Item) -> Item
 /// Adds the items, bound to those of a template.
 #[tactic(auto, using(std::proofs::lemmas::List::append_assoc))]
 fn bind_items(bound: &mut ArrayVec<Item, MAX_ITEMS>, template: &[TemplateItem], items: &[Item])
-    requires { length bound.old.items + length items.now ≤ MAX_ITEMS }
+    requires { length bound.old.items + length items.now ≤ 16 }
     ensures { bound.new.items ≡ bound.old.items ++ bound_items template.now items.now }
 {
     let Some((item, items)) = items.split_first() else {
@@ -154,7 +154,7 @@ fn bind_actions(
     template: &[TemplateAction],
     list: &[Action],
 )
-    requires { length done.old.items + length list.now ≤ MAX_ACTIONS }
+    requires { length done.old.items + length list.now ≤ 16 }
     ensures { done.new.items ≡ done.old.items ++ bound_actions template.now list.now }
 {
     let Some((action, list)) = list.split_first() else {

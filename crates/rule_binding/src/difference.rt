@@ -1,8 +1,9 @@
 //! Where the kinds of a list first differ from those that are wanted.
 ghost use Rattle.std.specs.Prelude.{ℕ, ◌≡◌, ◌+◌, ◌<◌, ◌^◌, length, map};
 ghost use Rattle.packet_headers.specs.Key.{kind_number};
+ghost use Rattle.flow_actions.specs.Kinds.{action_number};
 ghost use Rattle.rule_binding.specs.Binding.{item_number, wanted_item, number_of_action, wanted_action};
-ghost use Rattle.rule_binding.specs.Difference.{difference, action_number};
+ghost use Rattle.rule_binding.specs.Difference.{difference};
 
 use crate::template::{TemplateAction, TemplateItem};
 use flow_actions::{Action, ActionKind};

@@ -23,7 +23,7 @@ pub fn actions_template(actions: &Actions, masks: &Masks) -> ActionsTemplate
 /// Adds for each kind but `Void` whether its value is set.
 #[tactic(auto, using(std::proofs::lemmas::List::append_assoc))]
 fn set_kinds(fixed: &mut ArrayVec<bool, MAX_ACTIONS>, kinds: &[ActionKind], set: &[bool])
-    requires { length fixed.old.items + length kinds.now ≤ MAX_ACTIONS }
+    requires { length fixed.old.items + length kinds.now ≤ 16 }
     ensures { fixed.new.items ≡ fixed.old.items ++ set_kinds kinds.now set.now }
 {
     let Some((kind, kinds)) = kinds.split_first() else {
@@ -47,7 +47,7 @@ fn template_actions(
     list: &[Action],
     fixed: &[bool],
 )
-    requires { length kept.old.items + length list.now ≤ MAX_ACTIONS }
+    requires { length kept.old.items + length list.now ≤ 16 }
     ensures { kept.new.items ≡ kept.old.items ++ template_actions list.now fixed.now }
 {
     let Some((action, list)) = list.split_first() else {
@@ -91,7 +91,7 @@ pub fn actions_fault(attr: &Attr, actions: &Actions, masks: &Masks) -> Option<Fa
 
 /// The kinds of the actions, `Void` left out.
 fn kinds_done(list: &[Action]) -> ArrayVec<ActionKind, MAX_ACTIONS>
-    requires { length list.now ≤ MAX_ACTIONS }
+    requires { length list.now ≤ 16 }
     ensures { result.items ≡ kinds_done list.now }
 {
     let mut kinds = ArrayVec::new();

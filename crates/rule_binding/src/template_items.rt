@@ -22,7 +22,7 @@ pub fn pattern_template(pattern: &Pattern) -> PatternTemplate
 
 /// What a template keeps of items.
 fn template_items(items: &[Item]) -> ArrayVec<TemplateItem, MAX_ITEMS>
-    requires { length items.now ≤ MAX_ITEMS }
+    requires { length items.now ≤ 16 }
     ensures { result.items ≡ template_items items.now }
 {
     let mut kept = ArrayVec::new();
@@ -65,7 +65,7 @@ fn order_fault(pattern: &Pattern) -> Option<Fault>
 /// The items with just their kinds and `last`: then those with `last` are those that lack `spec`, and no other has a fault but of
 /// its place.
 fn bare_items(items: &[Item]) -> ArrayVec<Item, MAX_ITEMS>
-    requires { length items.now ≤ MAX_ITEMS }
+    requires { length items.now ≤ 16 }
     ensures { result.items ≡ map bare items.now }
 {
     let mut bare = ArrayVec::new();

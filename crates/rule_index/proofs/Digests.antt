@@ -1,54 +1,18 @@
 -- The walk of a digest gives the digest of the numbers.
-use Rattle.std.proofs.Common.{◌≡◌, ℕ, ◌+◌, ◌≤◌, zero, suc, Bool, true, false, nat_eq, length, drop, map, List, [], ◌∷◌, ◌++◌, Option, None, Some, refl, ◌∙◌, ap, arith, length-drop, if◌then◌else◌, eq-eqb, add-one, not}
+use Rattle.std.proofs.Common.{◌≡◌, ℕ, ◌+◌, ◌≤◌, Bool, true, false, nat_eq, length, drop, map, List, [], ◌∷◌, Option, None, Some, refl, ◌∙◌, ap, arith, length-drop, if◌then◌else◌, eq-eqb, add-one, not}
 use Rattle.std.proofs.lemmas.Bool.{ne_eqb}
-use Rattle.std.proofs.lemmas.Option.{slice_get_past}
-use Rattle.std.specs.List.{slice_get}
 use Rattle.std.specs.Option.{option_map}
 use Rattle.packet_headers.specs.declared.items.LayerAt.{LayerAt}
 use Rattle.pattern_items.specs.declared.pattern.Fields.{Fields}
-use Rattle.pattern_items.specs.Matches.{is_of_kind}
+use Rattle.packet_headers.specs.Key.{is_of}
 use Rattle.pattern_items.specs.Order.{is_vlan, is_vxlan}
+use Rattle.pattern_items.proofs.Walks.{walk_done, first_of, rest_of, at_hand, behind, room_left}
 use Rattle.pattern_items.specs.Shape.{masked_by, option_masked_by, met_from, met_by, and_then}
 use Rattle.rule_index.specs.declared.line.ShapeLine.{ShapeLine}
 use Rattle.rule_index.specs.declared.digest.DigestWay.{DigestWay}
 use Rattle.rule_index.specs.Lines.{kind_in, masks_in}
+use Rattle.rule_index.specs.DigestEnd.{all_are_met}
 use Rattle.rule_index.specs.Digest.{mix_fields, mix_all, digest_by, way, meet_any, step, walk, ended}
-
--- a walk over some layers, and then over more
-pub walk_append : (exact : Bool) (lines : List ShapeLine) (w : Option DigestWay) (a b : List LayerAt) → walk exact lines w (a ++ b) ≡ walk exact lines (walk exact lines w a) b
-walk_append exact lines None a b = refl
-walk_append exact lines (Some w) [] b = refl
-walk_append exact lines (Some w) (l ∷ a) b = walk_append exact lines (step exact lines w l) a b
-
--- where all lines have met theirs the walk stays
-pub walk_ended : (exact : Bool) (lines : List ShapeLine) (w : DigestWay) (ls : List LayerAt) → w.met ≡ length lines → walk exact lines (Some w) ls ≡ Some w
-walk_ended exact lines w [] e = refl
-walk_ended exact lines w (l ∷ ls) e =
-    ap (λ x. walk exact lines (meet_any exact x w l) ls) (slice_get_past lines w.met (omega (arith, e))) ∙ walk_ended exact lines w ls e
-
--- the lines that are still to be met
-abbrev first_line : List ShapeLine → Option ShapeLine
-first_line [] = None
-first_line (i ∷ is) = Some i
-
-abbrev rest_lines : List ShapeLine → List ShapeLine
-rest_lines [] = []
-rest_lines (i ∷ is) = is
-
-at_hand : (lines : List ShapeLine) (met : ℕ) → slice_get lines met ≡ first_line (drop met lines)
-at_hand [] zero = refl
-at_hand [] (suc n) = refl
-at_hand (i ∷ is) zero = refl
-at_hand (i ∷ is) (suc n) = at_hand is n
-
-behind : (lines : List ShapeLine) (met : ℕ) → drop (suc met) lines ≡ rest_lines (drop met lines)
-behind [] zero = refl
-behind [] (suc n) = refl
-behind (i ∷ is) zero = refl
-behind (i ∷ is) (suc n) = behind is n
-
-room_left : (lines is : List ShapeLine) (i : ShapeLine) (met : ℕ) → drop met lines ≡ i ∷ is → met + 1 ≤ length lines
-room_left lines is i met e = omega (arith, length-drop met lines, ap length e)
 
 not_ended : (lines is : List ShapeLine) (i : ShapeLine) (met d : ℕ) → drop met lines ≡ i ∷ is → ended lines (Some (way met d)) ≡ None
 not_ended lines is i met d e = ap (λ b. if b then Some d else None) (ne_eqb met (length lines) (λ same. omega (arith, length-drop met lines, ap length e)))
@@ -70,7 +34,7 @@ met_more exact i is d l (Some ls) = refl
 stays : (exact : Bool) (lines : List ShapeLine) (met d : ℕ) (ls : List LayerAt) → drop met lines ≡ [] → met ≤ length lines → ended lines (walk exact lines (Some (way met d)) ls) ≡ Some d
 stays exact lines met d ls e le =
     let h = all_ended lines met d e le in
-    ap (ended lines) (walk_ended exact lines (way met d) ls h.0) ∙ h.1
+    ap (ended lines) (walk_done (step exact lines) (way met d) ls (λ l. all_are_met exact lines (way met d) l (eq-eqb met (length lines) h.0))) ∙ h.1
 
 -- one layer, behind the first line's layer
 going : (exact : Bool) (lines : List ShapeLine) (ls : List LayerAt) (w next : DigestWay) (k z n v : Bool) (r r' : Option ℕ) → z ≡ false
@@ -109,20 +73,20 @@ goes_numbers : (exact : Bool) (lines rest : List ShapeLine) (met d : ℕ) (ls : 
 goes_numbers exact lines [] met d ls e le z = stays exact lines met d ls e le
 goes_numbers exact lines (i ∷ is) met d [] e le z = not_ended lines is i met d e
 goes_numbers exact lines (i ∷ is) met d (l ∷ ls) e le z =
-    ap (λ x. ended lines (walk exact lines (meet_any exact x (way met d) l) ls)) (at_hand lines met ∙ ap first_line e)
-    ∙ going exact lines ls (way met d) (next_way exact i l met d) (is_of_kind i.kind l) (nat_eq met 0) (not (is_vxlan l.layer.kind)) (is_vlan l.layer.kind)
+    ap (λ x. ended lines (walk exact lines (meet_any exact x (way met d) l) ls)) (at_hand lines met ∙ ap first_of e)
+    ∙ going exact lines ls (way met d) (next_way exact i l met d) (is_of i.kind l) (nat_eq met 0) (not (is_vxlan l.layer.kind)) (is_vlan l.layer.kind)
     (digest_of exact (i ∷ is) d (and_then l (met_from (map kind_in is) ls))) (digest_of exact (i ∷ is) d (met_from (map kind_in (i ∷ is)) ls)) z
-    (goes_numbers exact lines is (met + 1) (mix_fields exact i.masks (masked_by i.masks l) d) ls (rw add-one (behind lines met ∙ ap rest_lines e)) (room_left lines is i met e) (ne_eqb (met + 1) 0 (λ same. omega arith))
+    (goes_numbers exact lines is (met + 1) (mix_fields exact i.masks (masked_by i.masks l) d) ls (rw add-one (behind lines met ∙ ap rest_of e)) (room_left lines is i met e) (ne_eqb (met + 1) 0 (λ same. omega arith))
     ∙ met_more exact i is d l (met_from (map kind_in is) ls))
     (goes_numbers exact lines (i ∷ is) met d ls e le z)
-    ∙ digest_if exact (i ∷ is) d (is_of_kind i.kind l) (is_vlan l.layer.kind) (and_then l (met_from (map kind_in is) ls)) (met_from (map kind_in (i ∷ is)) ls)
+    ∙ digest_if exact (i ∷ is) d (is_of i.kind l) (is_vlan l.layer.kind) (and_then l (met_from (map kind_in is) ls)) (met_from (map kind_in (i ∷ is)) ls)
 
-begins_rest : (exact : Bool) (i : ShapeLine) (is : List ShapeLine) (l : LayerAt) (ls : List LayerAt) (k : Bool) → is_of_kind i.kind l ≡ k
+begins_rest : (exact : Bool) (i : ShapeLine) (is : List ShapeLine) (l : LayerAt) (ls : List LayerAt) (k : Bool) → is_of i.kind l ≡ k
     → digest_of exact (i ∷ is) 0 (if k then and_then l (met_from (map kind_in is) ls) else (if is_vxlan l.layer.kind then None else met_by (map kind_in (i ∷ is)) ls))
     ≡ digest_of exact (i ∷ is) 0 (if k then met_from (map kind_in (i ∷ is)) (l ∷ ls) else (if is_vxlan l.layer.kind then None else met_by (map kind_in (i ∷ is)) ls))
 begins_rest exact i is l ls true e =
     ap (λ b. digest_of exact (i ∷ is) 0 (if b then and_then l (met_from (map kind_in is) ls) else (if is_vlan l.layer.kind then met_from (map kind_in (i ∷ is)) ls else None))) (sym_of e) where
-      sym_of : is_of_kind i.kind l ≡ true → true ≡ is_of_kind i.kind l
+      sym_of : is_of i.kind l ≡ true → true ≡ is_of i.kind l
       sym_of h = cc
 begins_rest exact i is l ls false e = refl
 
@@ -130,12 +94,12 @@ begins_numbers : (exact : Bool) (lines : List ShapeLine) (ls : List LayerAt) →
 begins_numbers exact [] ls = stays exact [] 0 0 ls refl (omega arith)
 begins_numbers exact (i ∷ is) [] = not_ended (i ∷ is) is i 0 0 refl
 begins_numbers exact (i ∷ is) (l ∷ ls) =
-    beginning exact (i ∷ is) ls (way 0 0) (next_way exact i l 0 0) (is_of_kind i.kind l) (is_vxlan l.layer.kind)
+    beginning exact (i ∷ is) ls (way 0 0) (next_way exact i l 0 0) (is_of i.kind l) (is_vxlan l.layer.kind)
     (digest_of exact (i ∷ is) 0 (and_then l (met_from (map kind_in is) ls))) (digest_of exact (i ∷ is) 0 (met_by (map kind_in (i ∷ is)) ls))
     (goes_numbers exact (i ∷ is) is 1 (mix_fields exact i.masks (masked_by i.masks l) 0) ls refl (omega arith) refl ∙ met_more exact i is 0 l (met_from (map kind_in is) ls))
     (begins_numbers exact (i ∷ is) ls)
-    ∙ digest_unless exact (i ∷ is) 0 (is_of_kind i.kind l) (is_vxlan l.layer.kind) (and_then l (met_from (map kind_in is) ls)) (met_by (map kind_in (i ∷ is)) ls)
-    ∙ begins_rest exact i is l ls (is_of_kind i.kind l) refl
+    ∙ digest_unless exact (i ∷ is) 0 (is_of i.kind l) (is_vxlan l.layer.kind) (and_then l (met_from (map kind_in is) ls)) (met_by (map kind_in (i ∷ is)) ls)
+    ∙ begins_rest exact i is l ls (is_of i.kind l) refl
 
 pub walk_numbers : (exact : Bool) (lines : List ShapeLine) (ls : List LayerAt) → ended lines (walk exact lines (Some (way 0 0)) ls) ≡ digest_by exact lines ls
 walk_numbers exact lines ls = begins_numbers exact lines ls

@@ -10,7 +10,8 @@ use Rattle.pattern_items.specs.declared.pattern.Fields.{Fields}
 use Rattle.pattern_items.specs.declared.shape.Shape.{Shape}
 use Rattle.pattern_items.specs.declared.test.ItemTest.{ItemTest}
 use Rattle.pattern_items.specs.declared.test.Test.{Test}
-use Rattle.pattern_items.specs.Matches.{is_of_kind, accepts}
+use Rattle.packet_headers.specs.Key.{is_of}
+use Rattle.pattern_items.specs.Matches.{accepts}
 use Rattle.pattern_items.specs.Order.{is_vlan, is_vxlan}
 use Rattle.pattern_items.specs.Shape.{masked_by, all_masked_by, option_masked_by, met_from, met_by, and_then, values_of_test, masks_of_test, kind_of_test}
 use Rattle.flow_rules.specs.RuleView.{RuleView}
@@ -58,7 +59,7 @@ and_then_length l (Some ys) n xs h e = let same : l ∷ ys ≡ xs = cc in let lo
 met_from_length : (ks : List ItemKind) (ls xs : List LayerAt) → met_from ks ls ≡ Some xs → length xs ≡ length ks
 met_from_length [] ls xs e = let same : [] ≡ xs = cc in ap length (sym same)
 met_from_length (k ∷ ks) [] xs e = cc
-met_from_length (k ∷ ks) (l ∷ ls) xs e = by (λ ys. met_from_length ks ls ys) (met_from_length (k ∷ ks) ls xs) (is_of_kind k l) (is_vlan l.layer.kind) e where
+met_from_length (k ∷ ks) (l ∷ ls) xs e = by (λ ys. met_from_length ks ls ys) (met_from_length (k ∷ ks) ls xs) (is_of k l) (is_vlan l.layer.kind) e where
   by : ((ys : List LayerAt) → met_from ks ls ≡ Some ys → length ys ≡ length ks) → (met_from (k ∷ ks) ls ≡ Some xs → length xs ≡ length (k ∷ ks)) → (b v : Bool) → (if b then and_then l (met_from ks ls) else (if v then met_from (k ∷ ks) ls else None)) ≡ Some xs → length xs ≡ length (k ∷ ks)
   by p q true v h = let n = and_then_length l (met_from ks ls) (length ks) xs p h in omega (arith, n)
   by p q false true h = q h
@@ -67,7 +68,7 @@ met_from_length (k ∷ ks) (l ∷ ls) xs e = by (λ ys. met_from_length ks ls ys
 met_by_length : (ks : List ItemKind) (ls xs : List LayerAt) → met_by ks ls ≡ Some xs → length xs ≡ length ks
 met_by_length [] ls xs e = let same : [] ≡ xs = cc in ap length (sym same)
 met_by_length (k ∷ ks) [] xs e = cc
-met_by_length (k ∷ ks) (l ∷ ls) xs e = by (met_by_length (k ∷ ks) ls xs) (is_of_kind k l) (is_vxlan l.layer.kind) e where
+met_by_length (k ∷ ks) (l ∷ ls) xs e = by (met_by_length (k ∷ ks) ls xs) (is_of k l) (is_vxlan l.layer.kind) e where
   by : (met_by (k ∷ ks) ls ≡ Some xs → length xs ≡ length (k ∷ ks)) → (b v : Bool) → (if b then met_from (k ∷ ks) (l ∷ ls) else (if v then None else met_by (k ∷ ks) ls)) ≡ Some xs → length xs ≡ length (k ∷ ks)
   by q true v h = met_from_length (k ∷ ks) (l ∷ ls) xs h
   by q false true h = cc

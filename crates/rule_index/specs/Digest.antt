@@ -4,9 +4,9 @@ use Rattle.std.specs.List.{slice_get, range_with_len}
 use Rattle.std.specs.Option.{option_map}
 use Rattle.packet_headers.specs.declared.items.LayerAt.{LayerAt}
 use Rattle.pattern_items.specs.declared.pattern.Fields.{Fields}
-use Rattle.pattern_items.specs.Matches.{is_of_kind}
+use Rattle.packet_headers.specs.Key.{is_of}
 use Rattle.pattern_items.specs.Shape.{masked_by}
-use Rattle.pattern_items.specs.Walk.{passes}
+use Rattle.pattern_items.specs.Walk.{passes, walk_by}
 use Rattle.rule_index.specs.declared.line.ShapeLine.{ShapeLine}
 use Rattle.rule_index.specs.declared.digest.DigestWay.{DigestWay}
 use Rattle.rule_index.specs.Lines.{masks_in, numbers_by}
@@ -41,7 +41,7 @@ way met digest = record { met = met; digest = digest }
 
 abbrev pub meet : Bool → ShapeLine → DigestWay → LayerAt → Option DigestWay
 meet exact line w l =
-    if is_of_kind line.kind l then Some (way (w.met + 1) (mix_fields exact line.masks (masked_by line.masks l) w.digest))
+    if is_of line.kind l then Some (way (w.met + 1) (mix_fields exact line.masks (masked_by line.masks l) w.digest))
     else (if passes w.met l.layer.kind then Some w else None)
 
 abbrev pub meet_any : Bool → Option ShapeLine → DigestWay → LayerAt → Option DigestWay
@@ -52,9 +52,7 @@ abbrev pub step : Bool → List ShapeLine → DigestWay → LayerAt → Option D
 step exact lines w l = meet_any exact (slice_get lines w.met) w l
 
 abbrev pub walk : Bool → List ShapeLine → Option DigestWay → List LayerAt → Option DigestWay
-walk exact lines None ls = None
-walk exact lines (Some w) [] = Some w
-walk exact lines (Some w) (l ∷ ls) = walk exact lines (step exact lines w l) ls
+walk exact lines w ls = walk_by (step exact lines) w ls
 
 -- the digest behind the last layer, where all lines have met theirs
 abbrev pub ended : List ShapeLine → Option DigestWay → Option ℕ

@@ -1,5 +1,6 @@
 pub mod Lines
 pub mod Digest
+pub mod DigestEnd
 pub mod Exact
 pub mod Tables
 pub mod Turns

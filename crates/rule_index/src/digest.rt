@@ -1,15 +1,11 @@
 //! The digest of a frame by the lines of a shape: a walk over the frame's own headers.
-ghost use Rattle.std.specs.Prelude.{◌≡◌, length, nat_eq, Some};
-ghost use Rattle.packet_headers.specs.declared.items.LayerAt.{LayerAt};
-ghost use Rattle.packet_headers.specs.Key.{kind_number};
-ghost use Rattle.packet_headers.specs.Stack as stacks;
-ghost use Rattle.pattern_items.specs.Walk.{passes};
+ghost use Rattle.std.specs.Prelude.{◌≡◌, length, Some};
 ghost use Rattle.pattern_items.specs.Shape.{masked_by};
-ghost use Rattle.rule_index.specs.Digest.{mix, mix_fields, mix_all, digest_by, step, walk, ended, way};
+ghost use Rattle.rule_index.specs.Digest.{mix, mix_fields, mix_all, digest_by, step, ended};
 
 use crate::line::ShapeLine;
-use packet_headers::{ItemKind, Key, LayerAt, Network, Stack, Tags, Transport, Tunnel};
-use pattern_items::Fields;
+use packet_headers::Key;
+use pattern_items::{Fields, Header, Walker, is_of_kind, passes, walk_key};
 
 const FACTOR: u128 = 0x9E37_79B9_7F4A_7C15_F39C_C060_5CED_C835;
 
@@ -71,172 +67,75 @@ pub(crate) fn mix_all(exact: bool, masks: &[Fields], numbers: &[Fields]) -> u128
     digest
 }
 
-/// A layer's numbers, each by its mask.
+/// A header's numbers, each by its mask.
 #[inline(always)]
-fn masked(masks: &Fields, at: &LayerAt) -> Fields
-    ensures { result ≡ masked_by masks.now at.now }
+fn masked<H: Header>(masks: &Fields, header: &H) -> Fields
+    ensures { result ≡ masked_by masks.now (H.layer header.now) }
 {
-    let v = &at.layer.v;
     let m = &masks.v;
     Fields {
         v: [
-            v[0] & m[0],
-            v[1] & m[1],
-            v[2] & m[2],
-            v[3] & m[3],
-            v[4] & m[4],
-            v[5] & m[5],
+            header.field(0) & m[0],
+            header.field(1) & m[1],
+            header.field(2) & m[2],
+            header.field(3) & m[3],
+            header.field(4) & m[4],
+            header.field(5) & m[5],
         ],
     }
 }
 
-/// The numbers of a layer, each by its mask.
+/// The numbers of a header, each by its mask.
 #[inline(always)]
-fn mix_layer(exact: bool, masks: &Fields, at: &LayerAt, digest: u128) -> u128
-    ensures { result ≡ mix_fields exact masks.now (masked_by masks.now at.now) digest }
+fn mix_header<H: Header>(exact: bool, masks: &Fields, header: &H, digest: u128) -> u128
+    ensures { result ≡ mix_fields exact masks.now (masked_by masks.now (H.layer header.now)) digest }
 {
-    let numbers = masked(masks, at);
+    let numbers = masked(masks, header);
     mix_fields(exact, masks, &numbers, digest)
 }
 
-/// Whether the two kinds are one.
+/// The way behind a header, where it goes on.
 #[inline(always)]
-fn is_same_kind(kind: ItemKind, other: ItemKind) -> bool
-    ensures { result ≡ nat_eq (kind_number kind) (kind_number other) }
-{
-    kind == other
-}
-
-/// Whether a layer of another kind than the line at hand is passed over.
-#[inline(always)]
-fn passes(met: usize, kind: ItemKind) -> bool
-    ensures { result ≡ passes met kind }
-{
-    if met == 0 {
-        return !matches!(kind, ItemKind::Vxlan);
-    }
-    matches!(kind, ItemKind::Vlan)
-}
-
-/// The way behind a layer, where it goes on.
-#[inline(always)]
-fn step(by: Digester<'_>, way: DigestWay, at: &LayerAt) -> Option<DigestWay>
-    ensures { result ≡ step by.entry.exact by.entry.lines.now way at.now }
+fn step<H: Header>(by: Digester<'_>, way: DigestWay, header: &H) -> Option<DigestWay>
+    ensures { result ≡ step by.entry.exact by.entry.lines.now way (H.layer header.now) }
 {
     let Some(line) = by.lines.get(way.met) else {
         return Some(way);
     };
-    if is_same_kind(at.layer.kind, line.kind) {
+    if is_of_kind(line.kind, header) {
         return Some(DigestWay {
             met: way.met + 1,
-            digest: mix_layer(by.exact, &line.masks, at, way.digest),
+            digest: mix_header(by.exact, &line.masks, header, way.digest),
         });
     }
-    if passes(way.met, at.layer.kind) {
+    if passes(way.met, header.kind()) {
         return Some(way);
     }
     None
 }
 
-/// The same behind the tags of a stack.
-#[inline(always)]
-fn walk_tags(by: Digester<'_>, way: DigestWay, tags: &Tags) -> Option<DigestWay>
-    ensures { result ≡ walk by.entry.exact by.entry.lines.now (Some way) (stacks.tag_layers tags.now) }
-{
-    match tags {
-        Tags::None => Some(way),
-        Tags::One(tag) => step(by, way, &tag.layer()),
-        Tags::Two(first, second) => {
-            let Some(way) = step(by, way, &first.layer()) else {
-                return None;
-            };
-            step(by, way, &second.layer())
-        }
-    }
-}
+impl Walker for Digester<'_> {
+    type Way = DigestWay;
 
-/// The same behind its network header.
-#[inline(always)]
-fn walk_network(by: Digester<'_>, way: DigestWay, network: &Network) -> Option<DigestWay>
-    ensures { result ≡ walk by.entry.exact by.entry.lines.now (Some way) (stacks.network_layers network.now) }
-{
-    match network {
-        Network::None => Some(way),
-        Network::V4(header) => step(by, way, &header.layer()),
-        Network::V6(header) => step(by, way, &header.layer()),
-    }
-}
+    ghost use Rattle.std.specs.Prelude.{nat_eq};
 
-/// The same behind its transport header.
-#[inline(always)]
-fn walk_transport(by: Digester<'_>, way: DigestWay, transport: &Transport) -> Option<DigestWay>
-    ensures { result ≡ walk by.entry.exact by.entry.lines.now (Some way) (stacks.transport_layers transport.now) }
-{
-    match transport {
-        Transport::None => Some(way),
-        Transport::Tcp(header) => step(by, way, &header.layer()),
-        Transport::Udp(header) => step(by, way, &header.layer()),
-    }
-}
+    ghost step = { λ by. step by.exact by.lines.now };
 
-/// The same behind all headers of an Ethernet frame.
-#[inline(always)]
-#[tactic(auto, using(crate::proofs::Digests::walk_append))]
-fn walk_stack(by: Digester<'_>, way: DigestWay, stack: &Stack) -> Option<DigestWay>
-    ensures { result ≡ walk by.entry.exact by.entry.lines.now (Some way) (stacks.stack_layers stack.now) }
-{
-    let Some(way) = step(by, way, &stack.eth.layer()) else {
-        return None;
-    };
-    let Some(way) = walk_tags(by, way, &stack.tags) else {
-        return None;
-    };
-    let Some(way) = walk_network(by, way, &stack.network) else {
-        return None;
-    };
-    walk_transport(by, way, &stack.transport)
-}
+    ghost is_done = { λ by way. nat_eq way.met (length by.lines.now) };
 
-/// The same, where there may be no frame.
-#[inline(always)]
-fn walk_outer(by: Digester<'_>, way: DigestWay, stack: &Option<Stack>) -> Option<DigestWay>
-    ensures { result ≡ walk by.entry.exact by.entry.lines.now (Some way) (stacks.outer_layers stack.now) }
-{
-    match stack {
-        None => Some(way),
-        Some(stack) => walk_stack(by, way, stack),
-    }
-}
+    ghost use Rattle.rule_index.specs.DigestEnd.{all_are_met};
 
-/// The same behind VXLAN and the headers of the frame in it.
-#[inline(never)]
-fn walk_tunnel(by: Digester<'_>, way: DigestWay, tunnel: &Option<Tunnel>) -> Option<DigestWay>
-    ensures { result ≡ walk by.entry.exact by.entry.lines.now (Some way) (stacks.tunnel_layers tunnel.now) }
-{
-    match tunnel {
-        None => Some(way),
-        Some(tunnel) => {
-            let Some(way) = step(by, way, &tunnel.vxlan.layer()) else {
-                return None;
-            };
-            walk_outer(by, way, &tunnel.inner)
-        }
-    }
-}
+    ghost stays = { λ by. all_are_met by.exact by.lines.now };
 
-/// The way behind the last header of a key, where all lines may have met theirs.
-#[tactic(auto, using(crate::proofs::Digests::walk_append, crate::proofs::Digests::walk_ended))]
-fn walk_key(by: Digester<'_>, key: &Key) -> Option<DigestWay>
-    ensures { result ≡ walk by.entry.exact by.entry.lines.now (Some (way 0 0)) key.now }
-{
-    let start = DigestWay { met: 0, digest: 0 };
-    let Some(way) = walk_outer(by, start, &key.outer) else {
-        return None;
-    };
-    if way.met == by.lines.len() {
-        return Some(way);
+    #[inline(always)]
+    fn step<H: Header>(&self, way: DigestWay, header: &H) -> Option<DigestWay> {
+        step(*self, way, header)
     }
-    walk_tunnel(by, way, &key.tunnel)
+
+    #[inline(always)]
+    fn is_done(&self, way: DigestWay) -> bool {
+        way.met == self.lines.len()
+    }
 }
 
 /// The digest behind a walk.
@@ -257,5 +156,6 @@ fn ended(by: Digester<'_>, walked: Option<DigestWay>) -> Option<u128>
 pub(crate) fn digest_by(by: Digester<'_>, key: &Key) -> Option<u128>
     ensures { result ≡ digest_by by.entry.exact by.entry.lines.now key.now }
 {
-    ended(by, walk_key(by, key))
+    let start = DigestWay { met: 0, digest: 0 };
+    ended(by, walk_key(&by, start, key))
 }

@@ -3,11 +3,12 @@ ghost use Rattle.std.specs.Prelude.{◌≡◌, ◌+◌, ◌-◌, ◌<◌, ◌^�
 ghost use Rattle.rules_in_effect.specs.Entries.{with_hit};
 
 use flow_rules::{Count, Rule};
+use shared_value::Shared;
 
 /// A rule in effect, the table in which it stands, if it stands in one, and what its own COUNT has counted.
 #[derive(Drop)]
 pub struct InEffect {
-    pub rule: Rule,
+    pub rule: Shared<Rule>,
     pub table: Option<u16>,
     pub count: Count,
 }

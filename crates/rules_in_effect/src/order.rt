@@ -22,7 +22,7 @@ use std::mem;
 const FEWEST_PLACES: u32 = 8;
 
 /// The most places of a pool.
-const MOST_PLACES: u32 = 2_147_483_648;
+const MAX_PLACES: u32 = 2_147_483_648;
 
 /// The rules in the order in which they took effect.
 ///
@@ -220,7 +220,7 @@ fn wanted_places(len: u32, capacity: u32) -> Result<u32, AllocError>
     if len < capacity {
         return Ok(0);
     }
-    if capacity > MOST_PLACES / 2 {
+    if capacity > MAX_PLACES / 2 {
         return Err(AllocError);
     }
     if capacity < FEWEST_PLACES {

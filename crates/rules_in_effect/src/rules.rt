@@ -11,6 +11,7 @@ use crate::index::IdIndex;
 use crate::order::Order;
 use flow_rules::{Count, Rule};
 use packet_headers::Key;
+use shared_value::Shared;
 use std::alloc::{AllocError, Global};
 use std::marker::Model;
 
@@ -74,12 +75,12 @@ impl RulesInEffect {
     }
 
     /// A rule takes effect behind all others. Nothing is counted yet.
-    pub fn push(&mut self, rule: Rule, table: Option<u16>)
+    pub fn push(&mut self, rule: Shared<Rule>, table: Option<u16>)
         requires room { 1 ≤ self.old.room }
         requires fresh { entry_at rule.id self.old.list ≡ None }
         ensures { self.new.list ≡ self.old.list ++ record { rule = rule; table = table; count = record { hits = 0; bytes = 0 } } ∷ [] }
     {
-        let id = rule.id();
+        let id = rule.get().id();
         let handle = self.order.append(InEffect {
             rule,
             table,
@@ -120,7 +121,7 @@ impl RulesInEffect {
         ensures distinct { AreDistinct self.now.list }
     {
         match self.order.first() {
-            Some(entry) => Some(entry.rule.id()),
+            Some(entry) => Some(entry.rule.get().id()),
             None => None,
         }
     }

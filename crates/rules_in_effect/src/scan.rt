@@ -23,7 +23,7 @@ pub(crate) fn better_of<'a>(
 {
     let mut best = so_far;
     for entry in entries {
-        best = better(&entry.rule, best, group, key);
+        best = better(entry.rule.get(), best, group, key);
     }
     best
 }
@@ -72,7 +72,7 @@ pub(crate) fn is_used_in(entries: &[InEffect], id: u32) -> bool
 fn is_user(entry: &InEffect, id: u32) -> bool
     ensures { result ≡ is_user id entry.now }
 {
-    names(entry.rule.actions().list.as_slice(), id)
+    names(entry.rule.get().actions().list.as_slice(), id)
 }
 
 /// Whether one of the actions is the shared one of this id.

@@ -1,22 +1,23 @@
 //! Rules bound to their templates, row by row.
-use crate::made::{INGRESS, actions, bare, each, masks, pattern};
+use crate::made::{INGRESS, each, masks};
 use flow_actions::{Action, ActionKind};
 use flow_rules::{Cause, Fault, RuleSpec};
 use packet_headers::ItemKind;
 use pattern_items::{Item, Pattern};
 use rule_binding::{actions_template, bind, pattern_template};
 use std::process::Abort;
+use test_rules::{actions_of, any, pattern_of};
 
 /// `eth / void / ipv4 mask 0xff00`, each field by the mask.
 fn template(rt: &impl Abort) -> Pattern {
-    let mut masked = bare(ItemKind::Ipv4);
+    let mut masked = any(ItemKind::Ipv4);
     masked.mask = Some(each(0xff00));
-    pattern(rt, &[bare(ItemKind::Eth), bare(ItemKind::Void), masked])
+    pattern_of(&[any(ItemKind::Eth), any(ItemKind::Void), masked])
 }
 
 /// An item of IPv4 with numbers and another mask.
 fn numbers() -> Item {
-    let mut item = bare(ItemKind::Ipv4);
+    let mut item = any(ItemKind::Ipv4);
     item.given = Some(each(0x1234));
     item.mask = Some(each(1));
     item
@@ -24,7 +25,7 @@ fn numbers() -> Item {
 
 /// Bound to these items, and to the actions `queue index 3 / mark`, of which the queue is fixed.
 fn bound(rt: &impl Abort, items: &[Item], list: &[Action]) -> Result<RuleSpec, Fault> {
-    let fixed = actions(rt, &[Action::Queue(3), Action::Mark(0)]);
+    let fixed = actions_of(&[Action::Queue(3), Action::Mark(0)]);
     let list_template = actions_template(
         &fixed,
         &masks(rt, &[ActionKind::Queue, ActionKind::Mark]),
@@ -33,8 +34,8 @@ fn bound(rt: &impl Abort, items: &[Item], list: &[Action]) -> Result<RuleSpec, F
         &INGRESS,
         &pattern_template(&template(rt)),
         &list_template,
-        &pattern(rt, items),
-        &actions(rt, list),
+        &pattern_of(items),
+        &actions_of(list),
     )
 }
 
@@ -49,7 +50,7 @@ fn is_refused(rule: &Result<RuleSpec, Fault>, cause: Cause, at: u16) -> bool {
 fn a_mask_needs_a_spec(rt: HostRuntime) {
     let rule = bound(
         &rt,
-        &[bare(ItemKind::Eth), bare(ItemKind::Ipv4)],
+        &[any(ItemKind::Eth), any(ItemKind::Ipv4)],
         &[Action::Queue(0), Action::Mark(7)],
     );
     assert!(rt; is_refused(&rule, Cause::SpecNeeded, 1));
@@ -59,11 +60,7 @@ fn a_mask_needs_a_spec(rt: HostRuntime) {
 fn places_count_void(rt: HostRuntime) {
     let rule = bound(
         &rt,
-        &[
-            bare(ItemKind::Void),
-            bare(ItemKind::Eth),
-            bare(ItemKind::Udp),
-        ],
+        &[any(ItemKind::Void), any(ItemKind::Eth), any(ItemKind::Udp)],
         &[Action::Queue(0), Action::Mark(7)],
     );
     assert!(rt; is_refused(&rule, Cause::ItemDiffers, 2));
@@ -73,7 +70,7 @@ fn places_count_void(rt: HostRuntime) {
 fn a_short_list_differs_at_its_length(rt: HostRuntime) {
     let rule = bound(
         &rt,
-        &[bare(ItemKind::Eth), numbers()],
+        &[any(ItemKind::Eth), numbers()],
         &[Action::Void, Action::Queue(0)],
     );
     assert!(rt; is_refused(&rule, Cause::ActionDiffers, 2));
@@ -83,7 +80,7 @@ fn a_short_list_differs_at_its_length(rt: HostRuntime) {
 fn the_template_has_masks_and_fixed_values(rt: HostRuntime) {
     let rule = bound(
         &rt,
-        &[bare(ItemKind::Eth), numbers()],
+        &[any(ItemKind::Eth), numbers()],
         &[Action::Queue(0), Action::Mark(7)],
     );
     let Ok(rule) = rule else {

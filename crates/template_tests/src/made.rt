@@ -1,9 +1,8 @@
 //! Lists as the tests ask for them.
 use arrayvec::ArrayVec;
-use flow_actions::{Action, ActionKind, Actions, MAX_ACTIONS};
+use flow_actions::{ActionKind, MAX_ACTIONS};
 use flow_rules::Attr;
-use packet_headers::ItemKind;
-use pattern_items::{Fields, Item, MAX_ITEMS, Pattern};
+use pattern_items::Fields;
 use rule_binding::Masks;
 use std::process::Abort;
 use template_tables::MAX_TEMPLATES;
@@ -17,43 +16,9 @@ pub const INGRESS: Attr = Attr {
     transfer: false,
 };
 
-/// An item without numbers.
-pub fn bare(kind: ItemKind) -> Item {
-    Item {
-        kind,
-        given: None,
-        last: None,
-        mask: None,
-    }
-}
-
 /// The same number for each field.
 pub fn each(number: u128) -> Fields {
     Fields { v: [number; 6] }
-}
-
-pub fn pattern(rt: &impl Abort, items: &[Item]) -> Pattern {
-    let mut list = ArrayVec::new();
-    for item in items {
-        assert!(rt; list.len() < MAX_ITEMS);
-        list.push(*item);
-    }
-    Pattern {
-        items: list,
-        more: 0,
-    }
-}
-
-pub fn actions(rt: &impl Abort, list: &[Action]) -> Actions {
-    let mut copy = ArrayVec::new();
-    for action in list {
-        assert!(rt; copy.len() < MAX_ACTIONS);
-        copy.push(action.copied());
-    }
-    Actions {
-        list: copy,
-        more: 0,
-    }
 }
 
 /// A mask list of these kinds, of which the value of just the first is set.

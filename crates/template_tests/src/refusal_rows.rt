@@ -1,10 +1,11 @@
 //! What makes and ends templates and tables, row by row.
-use crate::made::{INGRESS, actions, bare, ids, masks, pattern};
+use crate::made::{INGRESS, ids, masks};
 use flow_actions::{Action, ActionKind};
 use flow_rules::{Cause, Fault, TplFault};
 use packet_headers::ItemKind;
 use std::process::Abort;
 use template_tables::Templates;
+use test_rules::{actions_of, any, pattern_of};
 
 /// A call, on a template of `eth` or one of `count / queue`.
 #[derive(Clone, Copy)]
@@ -24,7 +25,7 @@ enum Call {
 fn answer(rt: &impl Abort, templates: &mut Templates, call: Call) -> Result<u16, Fault> {
     match call {
         Call::Pattern(id) => {
-            let eth = pattern(rt, &[bare(ItemKind::Eth)]);
+            let eth = pattern_of(&[any(ItemKind::Eth)]);
             made(rt, templates.create_pattern(id, &INGRESS, &eth))
         }
         Call::Actions(id) => made_actions(rt, templates, id, ActionKind::Queue),
@@ -48,7 +49,7 @@ fn made_actions(
     id: Option<u16>,
     kind: ActionKind,
 ) -> Result<u16, Fault> {
-    let list = actions(rt, &[Action::Count, Action::Queue(3)]);
+    let list = actions_of(&[Action::Count, Action::Queue(3)]);
     let kinds = masks(rt, &[ActionKind::Count, kind]);
     made(rt, templates.create_actions(id, &INGRESS, &list, &kinds))
 }

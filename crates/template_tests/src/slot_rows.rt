@@ -3,31 +3,18 @@ ghost use Rattle.std.specs.Prelude.{◌≡◌, true, false, [], Some};
 ghost use Rattle.template_tables.specs.TableView.{empty_table};
 ghost use Rattle.template_tables.specs.TemplatesView.{table_of};
 
-use crate::made::{INGRESS, actions, pattern};
+use crate::made::INGRESS;
 use arrayvec::ArrayVec;
-use flow_actions::ActionKind;
-use flow_rules::{Cause, Fault, Known, Limits, Rule, RuleSpec, validate};
+use flow_rules::{Cause, Fault, Limits, Rule, RuleSpec, validate};
 use std::alloc::{AllocError, Global};
 use std::process::Abort;
 use template_tables::Templates;
+use test_rules::{NoneShared, actions_of, pattern_of};
 
 const LIMITS: Limits = Limits {
     rxq: 1,
     flow_max: 1,
 };
-
-/// No action is shared.
-struct NoneShared;
-
-impl Known for NoneShared {
-    ghost use Rattle.std.specs.Prelude.{None};
-
-    ghost kinds = { λ _ _. None };
-
-    fn kind_of(&self, _id: u32) -> Option<ActionKind> {
-        None
-    }
-}
 
 /// A rule of group 1 that takes each frame.
 fn rule(rt: &impl Abort, id: u32) -> Rule
@@ -35,8 +22,8 @@ fn rule(rt: &impl Abort, id: u32) -> Rule
 {
     let spec = RuleSpec {
         attr: INGRESS,
-        pattern: pattern(rt, &[]),
-        actions: actions(rt, &[]),
+        pattern: pattern_of(&[]),
+        actions: actions_of(&[]),
     };
     match validate(&spec, &LIMITS, &NoneShared, id) {
         Ok(rule) => rule,

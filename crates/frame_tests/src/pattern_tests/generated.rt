@@ -19,7 +19,7 @@ use test_frames::{
 const ROUNDS: u32 = 20000;
 
 /// How many items a generated pattern has at most.
-const MOST: u32 = 8;
+const MAX_MADE_ITEMS: u32 = 8;
 
 fn below(random: &mut Pcg32, limit: u32) -> u32
     requires { 0 < limit }
@@ -133,7 +133,7 @@ fn next_kind(random: &mut Pcg32, last: usize) -> usize {
 fn pattern(random: &mut Pcg32, layers: &[Layer]) -> Pattern {
     let mut items = ArrayVec::new();
     let mut last = 0;
-    for _item in 0..below(random, MOST) {
+    for _item in 0..below(random, MAX_MADE_ITEMS) {
         last = next_kind(random, last);
         if last < 8 && items.len() < MAX_ITEMS {
             items.push(item(random, KINDS[last], layers));
