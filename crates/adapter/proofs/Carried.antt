@@ -19,7 +19,8 @@ use Rattle.indirect_counters.proofs.Effects.{entry_at-changed_at, entry_at-pushe
 use Rattle.adapter.specs.State.{rule_in}
 use Rattle.adapter.specs.Counters.{is_there, while_there, zero_count}
 use Rattle.adapter.specs.KeptState.{KeptState, placed, count_of_rule, count_of_shared, count_kept, count_in}
-use Rattle.adapter.specs.StateInside.{AreInEffect}
+use Rattle.adapter.specs.declared.state.State.TheInside.{Inside}
+use Rattle.adapter.specs.StateInside.{state_kept, AreInEffect}
 use Rattle.adapter.proofs.Objects.{shared_at-values}
 use Rattle.adapter.proofs.RulesKept.{rule_at-placed}
 
@@ -56,6 +57,13 @@ carried kept old same list shared isolated rxq all by_rule by_shared (counters.S
     ∙ ap (λ b. while_there b (count_of_shared (entry_at id kept.shared)))
     (sym (ap (λ (o : Option Action). is_some o) (shared_at-values shared all id) ∙ is_some-map (λ (e : SharedAction). e.value) (entry_at id shared)))
     ∙ ap (λ (s : KeptState). while_there (is_there (counters.Shared id) (record { rules = map rule_in (map placed list); shared = values_in_effect shared; isolated = isolated; rxq = rxq })) (count_of_shared (entry_at id s.shared))) same
+
+-- and where no rule and no shared action changes
+pub carried-as-they-are : (s : Inside) (old : KeptState) → state_kept s ≡ old → (isolated : Bool) (rxq : ℕ) → AreInEffect s.shared.entries → (c : Counter)
+    → count_kept s.rules.list s.shared.entries c
+    ≡ while_there (is_there c (record { rules = map rule_in (map placed s.rules.list); shared = values_in_effect s.shared.entries; isolated = isolated; rxq = rxq })) (count_in old c)
+carried-as-they-are s old same isolated rxq all =
+    carried (state_kept s) old same s.rules.list s.shared.entries isolated rxq all (λ q. same_rule (rules.entry_at q s.rules.list)) (λ q. same_shared (entry_at q s.shared.entries))
 
 -- a rule that takes effect behind the others
 entry_at-pushed_rule : (q : ℕ) (list : List InEffect) (entry : InEffect)

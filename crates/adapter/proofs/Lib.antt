@@ -1,4 +1,5 @@
 pub mod Carried
+pub mod ChangesTold
 pub mod CountsGrowth
 pub mod Entries
 pub mod Objects
@@ -6,4 +7,5 @@ pub mod Rises
 pub mod RulesKept
 pub mod SoundGrowth
 pub mod StateKept
+pub mod TemplatesKept
 pub mod TotalsGrowth

@@ -146,7 +146,7 @@ update-objects users entries all rxq id action =
     ∙ ap (by_parts (is_none (in_effect_at id entries))) (other_kind-object (users id) action (in_effect_at id entries))
 
 -- one of a list passes a test where they are counted to more than 0
-any-count : {A : Type 0} (p : A → Bool) (xs : List A) → nat_lt 0 (count_by p xs) ≡ list_any p xs
+pub any-count : {A : Type 0} (p : A → Bool) (xs : List A) → nat_lt 0 (count_by p xs) ≡ list_any p xs
 any-count p [] = refl
 any-count p (x ∷ xs) = ap (nat_lt 0) (sum_by-cons (λ a. cond (p a) 1 0) x xs) ∙ by (p x) (any-count p xs) where
   by : (b : Bool) → nat_lt 0 (count_by p xs) ≡ list_any p xs → nat_lt 0 (cond b 1 0 + count_by p xs) ≡ (b || list_any p xs)

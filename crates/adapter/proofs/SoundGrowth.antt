@@ -32,7 +32,8 @@ use Rattle.adapter.proofs.CountsGrowth.{count_of-push, count_of-nil}
 use Rattle.flow_rules.specs.OnPort.{IsBelow}
 use Rattle.adapter.specs.Counted.{counted, HasRoom}
 use Rattle.adapter.specs.History.{IsLegalBehind, IsRight}
-use Rattle.adapter.specs.Sound.{Sound, AreLimits}
+use Rattle.flow_rules.specs.Limits.{AreLimits}
+use Rattle.adapter.specs.Sound.{Sound}
 use Rattle.adapter.proofs.StateKept.{IsUnder, IsUnder-state_of}
 use Rattle.flow_rules.proofs.FatesBelow.{verdict-below}
 use Rattle.adapter.proofs.TotalsGrowth.{totals_of-asked, totals_of-passed, totals_of-room, totals_of-nil}
@@ -91,6 +92,12 @@ answer-counts limits s t f g same (ops.IndirectCreate id attr action) = refl
 answer-counts limits s t f g same (ops.IndirectUpdate id action) = refl
 answer-counts limits s t f g same (ops.IndirectDestroy id) = refl
 answer-counts limits s t f g same (ops.IndirectQuery id) = ap (reply_to_shared_query (shared_at id s.shared)) (same (counters.Shared id))
+answer-counts limits s t f g same (ops.PatternTemplateCreate id attr pattern) = refl
+answer-counts limits s t f g same (ops.PatternTemplateDestroy id) = refl
+answer-counts limits s t f g same (ops.ActionsTemplateCreate id attr lists) = refl
+answer-counts limits s t f g same (ops.ActionsTemplateDestroy id) = refl
+answer-counts limits s t f g same (ops.TableCreate id attr rules_number templates) = refl
+answer-counts limits s t f g same (ops.TableDestroy id) = refl
 answer-counts limits s t f g same (ops.Start _) = refl
 answer-counts limits s t f g same ops.Stop = refl
 answer-counts limits s t f g same ops.Quit = refl

@@ -1,8 +1,8 @@
 -- What packets see behind each call, and what a state keeps under its limits.
-use Rattle.std.proofs.Common.{◌≡◌, ℕ, ◌-◌, ◌<◌, ◌^◌, Bool, true, false, cond, not, List, [], ◌∷◌, ◌++◌, ◌+◌, is_some, nat_eq, map, filter, fold, refl, sym, ap, subst, arith, Option, None, Some, nat_le}
+use Rattle.std.proofs.Common.{◌≡◌, ℕ, ◌-◌, ◌<◌, ◌≤◌, ◌^◌, Bool, true, false, cond, not, List, [], ◌∷◌, ◌++◌, ◌+◌, nat_eq, map, filter, fold, refl, sym, ap, ◌∙◌, zero-add, subst, arith, Option, None, Some, nat_le}
 use Rattle.std.specs.List.{All, count_by}
-use Rattle.std.specs.Map.{set_value}
 use Rattle.std.proofs.lemmas.List.{map-append}
+use Rattle.std.proofs.lemmas.List.Sums.{sum_by-append, sum_by-cons}
 use Rattle.std.proofs.lemmas.List.Elements.{All-append, All-cons, All-nil, All-filter, All-head, All-tail}
 use Rattle.std.proofs.lemmas.Bool.{leb-false, eqb-true}
 use Rattle.flow_rules.specs.Naming.{rule_at}
@@ -14,19 +14,22 @@ use Rattle.flow_rules.specs.declared.fault.Cause.TheVariants as causes
 use Rattle.flow_rules.specs.declared.change.Change.TheVariants as changes
 use Rattle.flow_actions.specs.declared.action.Action.{Action}
 use Rattle.flow_rules.specs.RuleView.{RuleView}
-use Rattle.flow_rules.specs.Shared.{Shared, shared_at, with_shared, without_shared, IsSharedOn, AreSharedOn}
+use Rattle.flow_rules.specs.Shared.{IsSharedOn, AreSharedOn}
 use Rattle.object_ids.specs.Ids.{id_for}
 use Rattle.indirect_counters.specs.Refusals as shared_calls
 use Rattle.indirect_counters.proofs.Creating.{IsSharedOn-created, IsSharedOn-updated}
 use Rattle.flow_rules.specs.OnPort.{IsFor}
-use Rattle.flow_rules.specs.Faults.{first_fault, rule_of}
+use Rattle.flow_rules.specs.Faults.{first, first_fault, rule_of}
 use Rattle.flow_rules.specs.Changes.{has_id, changed}
+use Rattle.flow_rules.proofs.SharedKept.{AreSharedOn-with, AreSharedOn-without}
 use Rattle.flow_rules.proofs.Validity.{on_port-clear}
+use Rattle.template_tables.specs.Refusals.{pattern_refusals, actions_refusals, table_refusals, pattern_end_refusals, actions_end_refusals, table_end_refusals}
+use Rattle.adapter.specs.Tables.{Templates, pattern_made, actions_made, table_made, pattern_gone, actions_gone, table_gone}
 use Rattle.adapter.specs.declared.call.Op.{Op}
 use Rattle.adapter.specs.declared.call.Op.TheVariants as ops
 use Rattle.adapter.specs.declared.entry.Entry.{Entry}
 use Rattle.adapter.specs.declared.entry.Entry.TheVariants.{Asked, Passed}
-use Rattle.adapter.specs.State.{State, Placed, objects, shared_set, shared_gone, state_of, state_behind, opening, flows_of, rule_in, kinds_in, created, destroyed, is_in_effect, create_fault, room_fault, first_of, plain, is_plain, unless_refused, next_state}
+use Rattle.adapter.specs.State.{State, Placed, objects, shared_set, shared_gone, state_of, state_behind, opening, flows_of, rule_in, kinds_in, created, destroyed, is_in_effect, create_fault, room_fault, first_of, plain, is_plain, unless_refused, next_state, templates_in, with_templates}
 use Rattle.adapter.specs.Changes.{change_unless_refused, AreItsChanges}
 
 -- without a rule, by its own id or by that of what is in effect
@@ -59,6 +62,10 @@ changes-shared_gone : (s : State) (id : ℕ) (fault : Option Fault)
 changes-shared_gone s id None = refl
 changes-shared_gone s id (Some fault) = refl
 
+changes-templates : (s : State) (change : Templates → Templates) (fault : Option Fault) → flows_of (unless_refused fault (with_templates change s) s) ≡ flows_of s
+changes-templates s change None = refl
+changes-templates s change (Some fault) = refl
+
 pub are_its_changes : (limits : Limits) (s : State) (op : Op) → AreItsChanges limits s op
 are_its_changes limits s (ops.Validate spec) = refl
 are_its_changes limits s (ops.Create spec) = changes-created s (rule_of s.ids spec) (create_fault limits s spec)
@@ -72,6 +79,16 @@ are_its_changes limits s (ops.IndirectCreate id attr action) =
 are_its_changes limits s (ops.IndirectUpdate id action) = changes-shared_set s id action (shared_calls.update_fault s.rxq (objects s) id action)
 are_its_changes limits s (ops.IndirectDestroy id) = changes-shared_gone s id (shared_calls.destroy_fault (objects s) id)
 are_its_changes limits s (ops.IndirectQuery id) = refl
+are_its_changes limits s (ops.PatternTemplateCreate id attr pattern) =
+    changes-templates s (pattern_made id pattern) (first (pattern_refusals (templates_in s) id attr pattern))
+are_its_changes limits s (ops.PatternTemplateDestroy id) = changes-templates s (pattern_gone id) (first (pattern_end_refusals (templates_in s) id))
+are_its_changes limits s (ops.ActionsTemplateCreate id attr lists) =
+    changes-templates s (actions_made id lists.actions lists.masks) (first (actions_refusals (templates_in s) id attr lists.actions lists.masks))
+are_its_changes limits s (ops.ActionsTemplateDestroy id) = changes-templates s (actions_gone id) (first (actions_end_refusals (templates_in s) id))
+are_its_changes limits s (ops.TableCreate id attr rules_number templates) =
+    changes-templates s (table_made id (record { attr = attr; patterns = templates.patterns.items; actions = templates.actions.items; rules_number = rules_number }))
+    (first (table_refusals (templates_in s) id attr rules_number templates.patterns.items templates.actions.items))
+are_its_changes limits s (ops.TableDestroy id) = changes-templates s (table_gone id) (first (table_end_refusals (templates_in s) id))
 are_its_changes limits s (ops.Start _) = refl
 are_its_changes limits s ops.Stop = refl
 are_its_changes limits s ops.Quit = refl
@@ -81,6 +98,10 @@ are_its_changes limits s (ops.Bad _) = refl
 abbrev IsBelowId : ℕ → RuleView → Type 0
 IsBelowId ids rule = rule.id < ids
 
+-- a rule that stands in a table
+abbrev pub is_in_table : Placed → Bool
+is_in_table r = not (is_plain r)
+
 -- what a state keeps under its limits
 pub record IsUnder (limits : Limits) (s : State) : Type 0 where
   pub numbers : s.ids < 2 ^ 32
@@ -88,10 +109,34 @@ pub record IsUnder (limits : Limits) (s : State) : Type 0 where
   pub queues : All (IsFor limits.rxq) (map rule_in s.rules)
   pub below : All (IsBelowId s.ids) (map rule_in s.rules)
   pub shared : AreSharedOn limits.rxq s.shared
+  pub plain : count_by is_plain s.rules ≤ limits.flow_max
+  pub in_tables : count_by is_in_table s.rules ≤ 65536
 
-first_of-none : (a b : Option Fault) → first_of a b ≡ None → (a ≡ None) × (b ≡ None)
+-- counted with one more, and with some left out
+pub count_by-push : {A : Type 0} (test : A → Bool) (xs : List A) (x : A) → count_by test (xs ++ x ∷ []) ≡ count_by test xs + cond (test x) 1 0
+count_by-push test xs x = sum_by-append (λ y. cond (test y) 1 0) xs (x ∷ []) ∙ ap (λ n. count_by test xs + n) (zero-add (cond (test x) 1 0))
+
+pub count_by-filter : {A : Type 0} (test keep : A → Bool) (xs : List A) → count_by test (filter keep xs) ≤ count_by test xs
+count_by-filter test keep [] = omega arith
+count_by-filter test keep (x ∷ xs) =
+    let split = sum_by-cons (λ y. cond (test y) 1 0) x xs in
+    by (keep x) (count_by-filter test keep xs) split where
+      by : (b : Bool) → count_by test (filter keep xs) ≤ count_by test xs → count_by test (x ∷ xs) ≡ cond (test x) 1 0 + count_by test xs
+          → count_by test (cond b (x ∷ filter keep xs) (filter keep xs)) ≤ count_by test (x ∷ xs)
+      by true behind split = omega (arith, behind, split, sum_by-cons (λ y. cond (test y) 1 0) x (filter keep xs))
+      by false behind split = omega (arith, behind, split)
+
+pub first_of-none : (a b : Option Fault) → first_of a b ≡ None → (a ≡ None) × (b ≡ None)
 first_of-none None b e = (refl, e)
 first_of-none (Some fault) b e = cc
+
+-- there is a place for one more rule
+pub place-none : (limits : Limits) (s : State) → room_fault limits s ≡ None → count_by is_plain s.rules < limits.flow_max
+place-none limits s = by (nat_le limits.flow_max (count_by is_plain s.rules)) (nat_le (2 ^ 32 - 1) s.ids) refl where
+  by : (full spent : Bool) → nat_le limits.flow_max (count_by is_plain s.rules) ≡ full
+      → cond full (Some (plain causes.StoreFull)) (cond spent (Some (plain causes.TooMany)) None) ≡ None → count_by is_plain s.rules < limits.flow_max
+  by true spent t e = cc
+  by false spent t e = leb-false limits.flow_max (count_by is_plain s.rules) t
 
 -- there is an id for one more rule
 room-none : (limits : Limits) (s : State) → room_fault limits s ≡ None → s.ids < 2 ^ 32 - 1
@@ -124,6 +169,8 @@ IsUnder-created limits s spec None is v =
           (All-append (IsBelowId (s.ids + 1)) (map rule_in s.rules) (rule ∷ []) (All-below s.ids (map rule_in s.rules) v.below)
           (All-cons (IsBelowId (s.ids + 1)) rule [] (omega arith) (All-nil (IsBelowId (s.ids + 1)))));
       shared = v.shared;
+      plain = omega (arith, place-none limits s parts.1, count_by-push is_plain s.rules (record { rule = rule; table = None }));
+      in_tables = omega (arith, v.in_tables, count_by-push is_in_table s.rules (record { rule = rule; table = None }));
     }
 
 IsUnder-destroyed : (limits : Limits) (s : State) (id : ℕ) (there : Bool) → IsUnder limits s → IsUnder limits (cond there (destroyed id s) s)
@@ -133,34 +180,10 @@ IsUnder-destroyed limits s id true v = record {
   queues = subst (All (IsFor limits.rxq)) (sym (map-without id s.rules)) (All-filter (λ (rule : RuleView). not (has_id id rule)) (IsFor limits.rxq) (map rule_in s.rules) v.queues);
   below = subst (All (IsBelowId s.ids)) (sym (map-without id s.rules)) (All-filter (λ (rule : RuleView). not (has_id id rule)) (IsBelowId s.ids) (map rule_in s.rules) v.below);
   shared = v.shared;
+  plain = omega (arith, v.plain, count_by-filter is_plain (λ (r : Placed). not (has_id id r.rule)) s.rules);
+  in_tables = omega (arith, v.in_tables, count_by-filter is_in_table (λ (r : Placed). not (has_id id r.rule)) s.rules);
 }
 IsUnder-destroyed limits s id false v = v
-
--- a value is put in, or taken out
-All-set_value : (rxq id : ℕ) (value : Action) (shared : Shared) → IsSharedOn rxq value → AreSharedOn rxq shared → AreSharedOn rxq (set_value (nat_eq id) shared value)
-All-set_value rxq id value [] on all = all
-All-set_value rxq id value (entry ∷ shared) on all =
-    by (nat_eq id entry.0) (All-set_value rxq id value shared on (All-tail (λ (e : ℕ × Action). IsSharedOn rxq e.1) entry shared all)) where
-      by : (b : Bool) → AreSharedOn rxq (set_value (nat_eq id) shared value)
-          → AreSharedOn rxq (cond b ((entry.0, value) ∷ shared) (entry ∷ set_value (nat_eq id) shared value))
-      by true behind = All-cons (λ (e : ℕ × Action). IsSharedOn rxq e.1) (entry.0, value) shared on (All-tail (λ (e : ℕ × Action). IsSharedOn rxq e.1) entry shared all)
-      by false behind = All-cons (λ (e : ℕ × Action). IsSharedOn rxq e.1) entry (set_value (nat_eq id) shared value)
-          (All-head (λ (e : ℕ × Action). IsSharedOn rxq e.1) entry shared all) behind
-
-All-removed : (rxq id : ℕ) (shared : Shared) → AreSharedOn rxq shared → AreSharedOn rxq (without_shared id shared)
-All-removed rxq id [] all = all
-All-removed rxq id (entry ∷ shared) all =
-    by (nat_eq id entry.0) (All-removed rxq id shared (All-tail (λ (e : ℕ × Action). IsSharedOn rxq e.1) entry shared all)) where
-      by : (b : Bool) → AreSharedOn rxq (without_shared id shared) → AreSharedOn rxq (cond b shared (entry ∷ without_shared id shared))
-      by true behind = All-tail (λ (e : ℕ × Action). IsSharedOn rxq e.1) entry shared all
-      by false behind = All-cons (λ (e : ℕ × Action). IsSharedOn rxq e.1) entry (without_shared id shared) (All-head (λ (e : ℕ × Action). IsSharedOn rxq e.1) entry shared all) behind
-
-AreSharedOn-with : (rxq id : ℕ) (value : Action) (shared : Shared) → IsSharedOn rxq value → AreSharedOn rxq shared → AreSharedOn rxq (with_shared id value shared)
-AreSharedOn-with rxq id value shared on all = by (is_some (shared_at id shared)) where
-  by : (b : Bool) → AreSharedOn rxq (cond b (set_value (nat_eq id) shared value) (shared ++ (id, value) ∷ []))
-  by true = All-set_value rxq id value shared on all
-  by false = All-append (λ (entry : ℕ × Action). IsSharedOn rxq entry.1) shared ((id, value) ∷ []) all
-      (All-cons (λ (entry : ℕ × Action). IsSharedOn rxq entry.1) (id, value) [] on (All-nil (λ (entry : ℕ × Action). IsSharedOn rxq entry.1)))
 
 IsUnder-shared_set : (limits : Limits) (s : State) (id : ℕ) (value : Action) (fault : Option Fault) → (fault ≡ None → IsSharedOn s.rxq value) → IsUnder limits s
     → IsUnder limits (unless_refused fault (shared_set id value s) s)
@@ -171,21 +194,51 @@ IsUnder-shared_set limits s id value None lawful v = record {
   queues = v.queues;
   below = v.below;
   shared = AreSharedOn-with limits.rxq id value s.shared (subst (λ n. IsSharedOn n value) v.port (lawful refl)) v.shared;
+  plain = v.plain;
+  in_tables = v.in_tables;
 }
 
 IsUnder-shared_gone : (limits : Limits) (s : State) (id : ℕ) (fault : Option Fault) → IsUnder limits s → IsUnder limits (unless_refused fault (shared_gone id s) s)
 IsUnder-shared_gone limits s id (Some fault) v = v
-IsUnder-shared_gone limits s id None v = record { numbers = v.numbers; port = v.port; queues = v.queues; below = v.below; shared = All-removed limits.rxq id s.shared v.shared }
+IsUnder-shared_gone limits s id None v = record {
+  numbers = v.numbers;
+  port = v.port;
+  queues = v.queues;
+  below = v.below;
+  shared = AreSharedOn-without limits.rxq id s.shared v.shared;
+  plain = v.plain;
+  in_tables = v.in_tables;
+}
+
+IsUnder-templates : (limits : Limits) (s : State) (change : Templates → Templates) (fault : Option Fault) → IsUnder limits s
+    → IsUnder limits (unless_refused fault (with_templates change s) s)
+IsUnder-templates limits s change (Some fault) v = v
+IsUnder-templates limits s change None v = record { numbers = v.numbers; port = v.port; queues = v.queues; below = v.below; shared = v.shared; plain = v.plain; in_tables = v.in_tables }
 
 pub IsUnder-next : (limits : Limits) (s : State) (op : Op) → IsUnder limits s → IsUnder limits (next_state limits s op)
 IsUnder-next limits s (ops.Validate spec) v = v
 IsUnder-next limits s (ops.Create spec) v = IsUnder-created limits s spec (create_fault limits s spec) refl v
 IsUnder-next limits s (ops.Destroy id) v = IsUnder-destroyed limits s id (is_in_effect id s) v
-IsUnder-next limits s ops.Flush v =
-    record { numbers = v.numbers; port = v.port; queues = All-nil (IsFor limits.rxq); below = All-nil (IsBelowId s.ids); shared = v.shared }
+IsUnder-next limits s ops.Flush v = record {
+  numbers = v.numbers;
+  port = v.port;
+  queues = All-nil (IsFor limits.rxq);
+  below = All-nil (IsBelowId s.ids);
+  shared = v.shared;
+  plain = omega arith;
+  in_tables = omega arith;
+}
 IsUnder-next limits s (ops.Query id) v = v
 IsUnder-next limits s ops.List v = v
-IsUnder-next limits s (ops.Isolate on) v = record { numbers = v.numbers; port = v.port; queues = v.queues; below = v.below; shared = v.shared }
+IsUnder-next limits s (ops.Isolate on) v = record {
+  numbers = v.numbers;
+  port = v.port;
+  queues = v.queues;
+  below = v.below;
+  shared = v.shared;
+  plain = v.plain;
+  in_tables = v.in_tables;
+}
 IsUnder-next limits s (ops.IndirectCreate id attr action) v =
     IsUnder-shared_set limits s (id_for id (objects s)) action (shared_calls.create_fault s.rxq (objects s) id attr action)
     (λ none. IsSharedOn-created s.rxq (objects s) id attr action none) v
@@ -193,12 +246,22 @@ IsUnder-next limits s (ops.IndirectUpdate id action) v =
     IsUnder-shared_set limits s id action (shared_calls.update_fault s.rxq (objects s) id action) (λ none. IsSharedOn-updated s.rxq (objects s) id action none) v
 IsUnder-next limits s (ops.IndirectDestroy id) v = IsUnder-shared_gone limits s id (shared_calls.destroy_fault (objects s) id) v
 IsUnder-next limits s (ops.IndirectQuery id) v = v
+IsUnder-next limits s (ops.PatternTemplateCreate id attr pattern) v =
+    IsUnder-templates limits s (pattern_made id pattern) (first (pattern_refusals (templates_in s) id attr pattern)) v
+IsUnder-next limits s (ops.PatternTemplateDestroy id) v = IsUnder-templates limits s (pattern_gone id) (first (pattern_end_refusals (templates_in s) id)) v
+IsUnder-next limits s (ops.ActionsTemplateCreate id attr lists) v =
+    IsUnder-templates limits s (actions_made id lists.actions lists.masks) (first (actions_refusals (templates_in s) id attr lists.actions lists.masks)) v
+IsUnder-next limits s (ops.ActionsTemplateDestroy id) v = IsUnder-templates limits s (actions_gone id) (first (actions_end_refusals (templates_in s) id)) v
+IsUnder-next limits s (ops.TableCreate id attr rules_number templates) v =
+    IsUnder-templates limits s (table_made id (record { attr = attr; patterns = templates.patterns.items; actions = templates.actions.items; rules_number = rules_number }))
+    (first (table_refusals (templates_in s) id attr rules_number templates.patterns.items templates.actions.items)) v
+IsUnder-next limits s (ops.TableDestroy id) v = IsUnder-templates limits s (table_gone id) (first (table_end_refusals (templates_in s) id)) v
 IsUnder-next limits s (ops.Start _) v = v
 IsUnder-next limits s ops.Stop v = v
 IsUnder-next limits s ops.Quit v = v
 IsUnder-next limits s (ops.Bad _) v = v
 
-IsUnder-behind : (limits : Limits) (s : State) (e : Entry) → IsUnder limits s → IsUnder limits (state_behind limits s e)
+pub IsUnder-behind : (limits : Limits) (s : State) (e : Entry) → IsUnder limits s → IsUnder limits (state_behind limits s e)
 IsUnder-behind limits s (Asked caller call reply) v = IsUnder-next limits s call.op v
 IsUnder-behind limits s (Passed caller parcel verdict) v = v
 
@@ -206,11 +269,22 @@ IsUnder-fold : (limits : Limits) (s : State) (h : List Entry) → IsUnder limits
 IsUnder-fold limits s [] v = v
 IsUnder-fold limits s (e ∷ h) v = IsUnder-fold limits (state_behind limits s e) h (IsUnder-behind limits s e v)
 
+-- the state behind none
+pub IsUnder-opening : (limits : Limits) → IsUnder limits (opening limits)
+IsUnder-opening limits = record {
+  numbers = omega arith;
+  port = refl;
+  queues = All-nil (IsFor limits.rxq);
+  below = All-nil (IsBelowId 0);
+  shared = All-nil (λ (entry : ℕ × Action). IsSharedOn limits.rxq entry.1);
+  plain = omega arith;
+  in_tables = omega arith;
+}
+
 -- the state behind any history
 pub IsUnder-state_of : (limits : Limits) (h : List Entry) → IsUnder limits (state_of limits h)
 unfolding state_of
-IsUnder-state_of limits h = IsUnder-fold limits (opening limits) h
-    (record { numbers = omega arith; port = refl; queues = All-nil (IsFor limits.rxq); below = All-nil (IsBelowId 0); shared = All-nil (λ (entry : ℕ × Action). IsSharedOn limits.rxq entry.1) })
+IsUnder-state_of limits h = IsUnder-fold limits (opening limits) h (IsUnder-opening limits)
 
 -- the id that is given next is that of no rule
 rule_at-above : (id : ℕ) (rules : List RuleView) → All (IsBelowId id) rules → rule_at id rules ≡ None

@@ -7,6 +7,9 @@ use Rattle.rules_in_effect.specs.declared.in_effect.InEffect.{InEffect}
 use Rattle.rules_in_effect.specs.Entries as rules
 use Rattle.indirect_counters.specs.declared.shared_action.SharedAction.{SharedAction}
 use Rattle.indirect_counters.specs.Entries as shared
+use Rattle.template_tables.specs.TableView.{TableView}
+use Rattle.template_tables.specs.TemplatesView.{TemplatesView}
+use Rattle.adapter.specs.Tables.{Table, Templates}
 use Rattle.adapter.specs.State.{Placed, State}
 use Rattle.adapter.specs.Counters.{zero_count}
 
@@ -14,6 +17,7 @@ use Rattle.adapter.specs.Counters.{zero_count}
 pub record KeptState : Type 0 where
   pub rules : List InEffect
   pub shared : shared.Entries
+  pub templates : TemplatesView
   pub isolated : Bool
   pub ids : ℕ
   pub rxq : ℕ
@@ -23,9 +27,23 @@ pub record KeptState : Type 0 where
 abbrev pub placed : InEffect → Placed
 placed entry = record { rule = entry.rule; table = entry.table }
 
+-- a table without its slots
+abbrev pub plan_of : ℕ × TableView → ℕ × Table
+plan_of entry = (entry.0, record { attr = entry.1.attr; patterns = entry.1.patterns; actions = entry.1.actions; rules_number = entry.1.rules_number })
+
+abbrev pub plans_of : TemplatesView → Templates
+plans_of t = record { patterns = t.patterns; actions = t.actions; tables = map plan_of t.tables }
+
 -- the state
 abbrev pub state_in : KeptState → State
-state_in s = record { rules = map placed s.rules; shared = shared.values_in_effect s.shared; isolated = s.isolated; ids = s.ids; rxq = s.rxq }
+state_in s = record {
+  rules = map placed s.rules;
+  shared = shared.values_in_effect s.shared;
+  templates = plans_of s.templates;
+  isolated = s.isolated;
+  ids = s.ids;
+  rxq = s.rxq;
+}
 
 -- what is counted of a rule, and of a shared action
 abbrev pub count_of_rule : Option InEffect → Count

@@ -1,10 +1,14 @@
+pub mod ChangeList
+pub mod ChangeListInside
 pub mod Changes
 pub mod Counted
 pub mod Counters
 pub mod Effect
 pub mod Entries
 pub mod History
+pub mod HistoryInside
 pub mod Kept
+pub mod KeptHistory
 pub mod KeptState
 pub mod Raising
 pub mod Reply
@@ -14,4 +18,5 @@ pub mod Sound
 pub mod Standing
 pub mod State
 pub mod StateInside
+pub mod Tables
 pub mod Totals

@@ -4,7 +4,7 @@ use Rattle.std.specs.List.{list_any}
 use Rattle.flow_rules.specs.declared.limits.Limits.{Limits}
 use Rattle.flow_rules.specs.declared.fault.Fault.{Fault}
 use Rattle.flow_rules.specs.declared.fault.Cause.TheVariants as causes
-use Rattle.flow_rules.specs.Faults.{first_fault, is_count}
+use Rattle.flow_rules.specs.Faults.{first, first_fault, is_count}
 use Rattle.adapter.specs.declared.call.Op.{Op}
 use Rattle.adapter.specs.declared.call.Op.TheVariants as ops
 use Rattle.adapter.specs.declared.reply.Reply.{Reply}
@@ -18,7 +18,8 @@ use Rattle.flow_rules.specs.Naming.{rule_at}
 use Rattle.flow_rules.specs.Shared.{shared_at}
 use Rattle.object_ids.specs.Ids.{id_for}
 use Rattle.indirect_counters.specs.Refusals as shared_calls
-use Rattle.adapter.specs.State.{create_fault, is_in_effect, objects, kinds_in, plain, rule_in}
+use Rattle.template_tables.specs.Refusals.{pattern_refusals, actions_refusals, table_refusals, pattern_end_refusals, actions_end_refusals, table_end_refusals}
+use Rattle.adapter.specs.State.{create_fault, is_in_effect, objects, kinds_in, plain, rule_in, templates_in}
 use Rattle.adapter.specs.Standing.{Standing, standing_of}
 use Rattle.adapter.specs.Rows.{row_in}
 
@@ -59,6 +60,15 @@ answer_of limits at (ops.IndirectCreate id attr action) =
 answer_of limits at (ops.IndirectUpdate id action) = unless (shared_calls.update_fault at.state.rxq (objects at.state) id action) (replies.IndirectUpdated id)
 answer_of limits at (ops.IndirectDestroy id) = unless (shared_calls.destroy_fault (objects at.state) id) (replies.IndirectDestroyed id)
 answer_of limits at (ops.IndirectQuery id) = reply_to_shared_query (shared_at id at.state.shared) (at.count (counters.Shared id))
+answer_of limits at (ops.PatternTemplateCreate id attr pattern) =
+    unless (first (pattern_refusals (templates_in at.state) id attr pattern)) (replies.PatternTemplateCreated (id_for id at.state.templates.patterns))
+answer_of limits at (ops.PatternTemplateDestroy id) = unless (first (pattern_end_refusals (templates_in at.state) id)) (replies.PatternTemplateDestroyed id)
+answer_of limits at (ops.ActionsTemplateCreate id attr lists) =
+    unless (first (actions_refusals (templates_in at.state) id attr lists.actions lists.masks)) (replies.ActionsTemplateCreated (id_for id at.state.templates.actions))
+answer_of limits at (ops.ActionsTemplateDestroy id) = unless (first (actions_end_refusals (templates_in at.state) id)) (replies.ActionsTemplateDestroyed id)
+answer_of limits at (ops.TableCreate id attr rules_number templates) =
+    unless (first (table_refusals (templates_in at.state) id attr rules_number templates.patterns.items templates.actions.items)) (replies.TableCreated (id_for id at.state.templates.tables))
+answer_of limits at (ops.TableDestroy id) = unless (first (table_end_refusals (templates_in at.state) id)) (replies.TableDestroyed id)
 answer_of limits at (ops.Start _) = replies.Started
 answer_of limits at ops.Stop = replies.Stopped at.totals
 answer_of limits at ops.Quit = replies.Bye

@@ -1,8 +1,11 @@
 -- What an adapter keeps true of its fields.
-use Rattle.std.specs.Prelude.{◌≡◌, ◌^◌, ◌*◌, ◌≤◌, List, length}
+use Rattle.std.specs.Prelude.{◌≡◌, ◌^◌, ◌*◌, ◌≤◌, List, length, All}
 use Rattle.flow_rules.specs.declared.limits.Limits.{Limits}
+use Rattle.flow_rules.specs.Limits.{AreLimits}
 use Rattle.adapter.specs.declared.adapter.Adapter.TheInside.{Inside}
 use Rattle.adapter.specs.declared.entry.Entry.{Entry}
+use Rattle.flow_rules.specs.declared.change.Change.{Change}
+use Rattle.adapter.specs.Changes.{HasFewActions, changes_of}
 use Rattle.adapter.specs.Seen.{Seen}
 use Rattle.flow_rules.specs.declared.counter.Counter.{Counter}
 use Rattle.adapter.specs.State.{state_of}
@@ -10,13 +13,6 @@ use Rattle.adapter.specs.Totals.{totals_of}
 use Rattle.adapter.specs.Counters.{count_of}
 use Rattle.adapter.specs.Standing.{Standing, standing_kept}
 use Rattle.adapter.specs.History.{IsLegal}
-
--- the ranges of the limits
-pub record AreLimits (limits : Limits) : Type 0 where
-  pub some_queue : 1 ≤ limits.rxq
-  pub queues : limits.rxq ≤ 16
-  pub some_rule : 1 ≤ limits.flow_max
-  pub rules : limits.flow_max ≤ 65536
 
 -- The limits are in their ranges. The history is legal, and short enough to be counted, and the standing is that behind it. A frame
 -- names at most 256 counters, and has fewer than 2^32 bytes.
@@ -30,7 +26,12 @@ pub record Sound (limits : Limits) (at : Standing) (history : List Entry) : Type
   pub short : length history ≤ 2 ^ 32
 
 abbrev pub view_of : Inside → Seen
-view_of a = record { limits = a.limits; history = a.history }
+view_of a = record { limits = a.limits; history = a.history.entries }
+
+-- the list has the changes of the history, and no rule among them has more than 16 actions
+pub record AreTold (limits : Limits) (history : List Entry) (list : List Change) : Type 0 where
+  pub all : list ≡ changes_of limits history
+  pub few : All HasFewActions list
 
 abbrev pub IsSound : Inside → Type 0
-IsSound a = Sound a.limits (standing_kept a.standing) a.history
+IsSound a = Sound a.limits (standing_kept a.standing) a.history.entries × AreTold a.limits a.history.entries a.changes.list

@@ -1,5 +1,5 @@
 -- The state behind a history, and what each call does to it.
-use Rattle.std.specs.Prelude.{ℕ, ◌+◌, ◌-◌, ◌^◌, Bool, false, not, ◌&&◌, List, [], ◌∷◌, ◌++◌, map, filter, count_by, nat_le, if◌then◌else◌, Option, None, Some, fold}
+use Rattle.std.specs.Prelude.{ℕ, nat_eq, ◌+◌, ◌-◌, ◌^◌, Bool, false, not, ◌&&◌, List, [], ◌∷◌, ◌++◌, map, filter, count_by, nat_le, if◌then◌else◌, Option, None, Some, fold}
 use Rattle.std.specs.List.{list_any}
 use Rattle.std.specs.Option.{is_none, option_map}
 use Rattle.flow_rules.specs.declared.limits.Limits.{Limits}
@@ -9,7 +9,7 @@ use Rattle.flow_rules.specs.declared.fault.Cause.{Cause}
 use Rattle.flow_rules.specs.declared.fault.Cause.TheVariants as causes
 use Rattle.flow_actions.specs.declared.action.Action.{Action}
 use Rattle.flow_actions.specs.Kinds.{kind_of}
-use Rattle.flow_rules.specs.Faults.{Kinds, first_fault, rule_of, is_shared}
+use Rattle.flow_rules.specs.Faults.{Kinds, first, first_fault, rule_of, is_shared}
 use Rattle.flow_rules.specs.Shared.{Shared, shared_at, with_shared, without_shared}
 use Rattle.flow_rules.specs.RuleView.{RuleView}
 use Rattle.flow_rules.specs.Walk.{Flows}
@@ -22,23 +22,28 @@ use Rattle.indirect_counters.specs.Counts.{no_count}
 use Rattle.indirect_counters.specs.Entries.{Entries}
 use Rattle.object_ids.specs.Ids.{id_for}
 use Rattle.indirect_counters.specs.Refusals as shared_calls
+use Rattle.template_tables.specs.TableView.{TableView}
+use Rattle.template_tables.specs.TemplatesView.{TemplatesView}
+use Rattle.template_tables.specs.Refusals.{pattern_refusals, actions_refusals, table_refusals, pattern_end_refusals, actions_end_refusals, table_end_refusals}
+use Rattle.adapter.specs.Tables.{Table, Templates, no_templates, pattern_made, actions_made, table_made, pattern_gone, actions_gone, table_gone}
 
 -- a rule in effect, with its table, if it stands in one
 pub record Placed : Type 0 where
   pub rule : RuleView
   pub table : Option ℕ
 
--- the rules in effect, in the order in which they took effect; the actions that they share; whether a miss drops; how many rule
--- ids were given; and how many Rx queues the port has
+-- the rules in effect, in the order in which they took effect; the actions that they share; templates and tables; whether a miss
+-- drops; how many rule ids were given; and how many Rx queues the port has
 pub record State : Type 0 where
   pub rules : List Placed
   pub shared : Shared
+  pub templates : Templates
   pub isolated : Bool
   pub ids : ℕ
   pub rxq : ℕ
 
 abbrev pub opening : Limits → State
-opening limits = record { rules = []; shared = []; isolated = false; ids = 0; rxq = limits.rxq }
+opening limits = record { rules = []; shared = []; templates = no_templates; isolated = false; ids = 0; rxq = limits.rxq }
 
 -- what packets see of a state
 abbrev pub rule_in : Placed → RuleView
@@ -116,6 +121,39 @@ is_user id r = list_any (is_shared id) r.rule.actions
 abbrev pub objects : State → Entries
 objects s = map (λ (entry : ℕ × Action). (entry.0, record { value = entry.1; users = count_by (is_user entry.0) s.rules; held = false; count = no_count })) s.shared
 
+-- a rule stands in the table of an id
+abbrev pub is_table : ℕ → Option ℕ → Bool
+is_table id None = false
+is_table id (Some table) = nat_eq id table
+
+abbrev pub stands_in : ℕ → Placed → Bool
+stands_in id r = is_table id r.table
+
+abbrev pub slot_of : Placed → ℕ × Option RuleView
+slot_of r = (r.rule.id, Some r.rule)
+
+-- a table as it is judged by: its taken slots are those of its rules in effect
+abbrev pub table_in : List Placed → ℕ × Table → ℕ × TableView
+table_in rules entry = (
+  entry.0,
+  record {
+    attr = entry.1.attr;
+    patterns = entry.1.patterns;
+    actions = entry.1.actions;
+    rules_number = entry.1.rules_number;
+    slots = map slot_of (filter (stands_in entry.0) rules);
+    greatest = None;
+  },
+)
+
+-- templates and tables as they are judged by
+abbrev pub templates_in : State → TemplatesView
+templates_in s = record { patterns = s.templates.patterns; actions = s.templates.actions; tables = map (table_in s.rules) s.templates.tables }
+
+-- with other templates and tables
+abbrev pub with_templates : (Templates → Templates) → State → State
+with_templates change s = record s { templates = change s.templates }
+
 -- a call that has a fault leaves the state
 abbrev pub unless_refused : Option Fault → State → State → State
 unless_refused None done s = done
@@ -135,6 +173,16 @@ next_state limits s (ops.IndirectCreate id attr action) =
 next_state limits s (ops.IndirectUpdate id action) = unless_refused (shared_calls.update_fault s.rxq (objects s) id action) (shared_set id action s) s
 next_state limits s (ops.IndirectDestroy id) = unless_refused (shared_calls.destroy_fault (objects s) id) (shared_gone id s) s
 next_state limits s (ops.IndirectQuery id) = s
+next_state limits s (ops.PatternTemplateCreate id attr pattern) =
+    unless_refused (first (pattern_refusals (templates_in s) id attr pattern)) (with_templates (pattern_made id pattern) s) s
+next_state limits s (ops.PatternTemplateDestroy id) = unless_refused (first (pattern_end_refusals (templates_in s) id)) (with_templates (pattern_gone id) s) s
+next_state limits s (ops.ActionsTemplateCreate id attr lists) =
+    unless_refused (first (actions_refusals (templates_in s) id attr lists.actions lists.masks)) (with_templates (actions_made id lists.actions lists.masks) s) s
+next_state limits s (ops.ActionsTemplateDestroy id) = unless_refused (first (actions_end_refusals (templates_in s) id)) (with_templates (actions_gone id) s) s
+next_state limits s (ops.TableCreate id attr rules_number templates) =
+    unless_refused (first (table_refusals (templates_in s) id attr rules_number templates.patterns.items templates.actions.items))
+    (with_templates (table_made id (record { attr = attr; patterns = templates.patterns.items; actions = templates.actions.items; rules_number = rules_number })) s) s
+next_state limits s (ops.TableDestroy id) = unless_refused (first (table_end_refusals (templates_in s) id)) (with_templates (table_gone id) s) s
 next_state limits s (ops.Start _) = s
 next_state limits s ops.Stop = s
 next_state limits s ops.Quit = s

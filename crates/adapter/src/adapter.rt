@@ -1,20 +1,22 @@
 //! The adapter: the rules in effect, and the history of all that was asked and of all frames that passed.
-ghost use Rattle.std.specs.Prelude.{◌≡◌, ◌<◌, ◌≤◌, ◌^◌, [], ◌∷◌, ◌++◌, length, slice_get, Some, IfOk, OnOk, OnErr};
+ghost use Rattle.std.specs.Prelude.{◌≡◌, ◌+◌, ◌<◌, ◌≤◌, ◌^◌, [], ◌∷◌, ◌++◌, length, drop, fold, slice_get, All, Some, IfOk, OnOk, OnErr};
 ghost use Rattle.adapter.specs.declared.entry.Entry.TheVariants.{Asked, Passed};
 ghost use Rattle.adapter.specs.Seen.{Enters, Stays, entry_of};
 
 use crate::call::Call;
 use crate::caller::Caller;
+use crate::change_list::ChangeList;
 use crate::count::count;
 use crate::entry::EntryView;
 use crate::history::History;
-use crate::outcome::{Outcome, judge};
+use crate::kept::keep_call;
+use crate::outcome::{Judged, judge};
 use crate::parcel::Parcel;
 use crate::reply::{Reply, Totals};
 use crate::standing::Standing;
 use crate::state::State;
 use flow_actions::Verdict;
-use flow_rules::{Limits, classify};
+use flow_rules::{Change, Limits, classify};
 use packet_headers::Key;
 use std::alloc::{AllocError, Global};
 use std::marker::Model;
@@ -33,6 +35,8 @@ pub struct Adapter {
     /// What calls and frames are judged by.
     standing: Standing,
     history: History,
+    /// What calls changed for packets.
+    changes: ChangeList,
 }
 
 impl Model for Adapter {
@@ -49,11 +53,14 @@ impl Model for Adapter {
 
 impl Adapter {
     ghost use Rattle.adapter.specs.State.{flows_of, state_of};
+    ghost use Rattle.adapter.specs.Changes.{HasFewActions, changes_of, flows_at};
     ghost use Rattle.adapter.specs.Totals.{totals_of};
     ghost use Rattle.adapter.specs.Reply.{reply_to};
     ghost use Rattle.adapter.specs.History.{IsLegal};
     ghost use Rattle.flow_rules.specs.Walk.{verdict_of};
-    ghost use Rattle.adapter.specs.Sound.{AreLimits};
+    ghost use Rattle.flow_rules.specs.Changes.{changed};
+    ghost use Rattle.flow_rules.specs.Lawful.{AreLawful};
+    ghost use Rattle.flow_rules.specs.Limits.{AreLimits};
 
     /// An adapter without rules, whose history is empty.
     pub fn new(alloc: Global, limits: Limits) -> Result<Adapter, AllocError>
@@ -72,6 +79,7 @@ impl Adapter {
                 },
             },
             history: History::new(alloc),
+            changes: ChangeList::new(alloc),
         })
     }
 
@@ -88,10 +96,18 @@ impl Adapter {
             return Err(AllocError);
         }
         self.standing.state.reserve()?;
-        let Outcome { reply, effect } = judge(self.alloc, &self.limits, &self.standing, &call.op)?;
+        self.changes.reserve()?;
+        self.history.reserve()?;
+        let Judged {
+            reply,
+            effect,
+            change,
+        } = judge(self.alloc, &self.limits, &self.standing, &call.op)?;
         let kept = reply.clone()?;
-        self.history.add_call(caller, call, kept)?;
-        self.standing.state.carry_out(&self.limits, effect);
+        let entry = keep_call(self.alloc, caller, call, kept)?;
+        self.standing.state.carry_out(&self.limits, effect)?;
+        self.changes.add(change);
+        self.history.add(entry);
         Ok(reply)
     }
 
@@ -142,6 +158,25 @@ impl Adapter {
         ensures { slice_get self.now.history place ≡ Some (entry_of result) }
     {
         self.history.entry(place as usize)
+    }
+
+    /// The version: how many changes of what packets see the history has made.
+    pub fn version(&self) -> u64
+        ensures number { result ≡ length (changes_of self.now.limits self.now.history) }
+        ensures few { All HasFewActions (changes_of self.now.limits self.now.history) }
+    {
+        self.changes.len() as u64
+    }
+
+    /// The changes from a version on, as a replica at that version wants them: behind them it sees what packets see now.
+    pub fn changes_from(&self, version: u64) -> &[Change]
+        requires { version ≤ length (changes_of self.now.limits self.now.history) }
+        ensures changes { result.now ≡ drop version (changes_of self.now.limits self.now.history) }
+        ensures number { version + length result.now ≡ length (changes_of self.now.limits self.now.history) }
+        ensures lawful { AreLawful self.now.limits (flows_at self.now.limits self.now.history version) result.now }
+        ensures flows { fold changed (flows_at self.now.limits self.now.history version) result.now ≡ flows_of (state_of self.now.limits self.now.history) }
+    {
+        self.changes.from(version as usize)
     }
 
     /// The totals of the frames that passed.

@@ -1,10 +1,29 @@
 //! The calls that a script makes.
 ghost use Rattle.std.specs.Prelude.{◌≡◌};
 
-use crate::shared::Shared;
-use flow_actions::Action;
+use arrayvec::ArrayVec;
+use flow_actions::{Action, Actions};
 use flow_rules::{Attr, RuleSpec};
+use pattern_items::Pattern;
+use rule_binding::Masks;
+use shared_value::Shared;
 use std::alloc::AllocError;
+use template_tables::MAX_TEMPLATES;
+
+/// The lists that an actions template is made of.
+#[derive(Debug, Drop)]
+pub struct ActionLists {
+    pub actions: Actions,
+    /// Which of the actions have the value that stands there for all rules.
+    pub masks: Masks,
+}
+
+/// The ids of the templates that a table names.
+#[derive(Debug, Drop)]
+pub struct TableTemplates {
+    pub patterns: ArrayVec<u16, MAX_TEMPLATES>,
+    pub actions: ArrayVec<u16, MAX_TEMPLATES>,
+}
 
 /// Where a call stands in its script: the line, counted from 1, and the part of that line, counted from 1.
 #[derive(Clone, Copy, Debug, PartialEq, Eq)]
@@ -58,6 +77,32 @@ pub enum Op {
     IndirectDestroy(u16),
     /// `flow indirect_action query`: what the COUNT of this id has counted.
     IndirectQuery(u16),
+    /// `flow pattern_template create`: a template of the items of rules is made, at this id or at the least unused one.
+    PatternTemplateCreate {
+        id: Option<u16>,
+        attr: Attr,
+        pattern: Shared<Pattern>,
+    },
+    /// `flow pattern_template destroy`: the pattern template of this id goes.
+    PatternTemplateDestroy(u16),
+    /// `flow actions_template create`: a template of the actions of rules is made, at this id or at the least unused one.
+    ActionsTemplateCreate {
+        id: Option<u16>,
+        attr: Attr,
+        lists: Shared<ActionLists>,
+    },
+    /// `flow actions_template destroy`: the actions template of this id goes.
+    ActionsTemplateDestroy(u16),
+    /// `flow template_table create`: a table for so many rules of these templates is made, at this id or at the least
+    /// unused one.
+    TableCreate {
+        id: Option<u16>,
+        attr: Attr,
+        rules_number: u32,
+        templates: Shared<TableTemplates>,
+    },
+    /// `flow template_table destroy`: the table of this id goes.
+    TableDestroy(u16),
     /// Opens a phase over so many of the remaining frames, or over all of them.
     Start(Option<u32>),
     /// Closes a phase.

@@ -1,14 +1,13 @@
 //! The list of entries.
-ghost use Rattle.std.specs.Prelude.{◌≡◌, ◌<◌, [], ◌∷◌, ◌++◌, length, slice_get, Some, OnOk, OnErr};
-ghost use Rattle.adapter.specs.declared.entry.Entry.TheVariants.{Asked, Passed};
+ghost use Rattle.std.specs.Prelude.{◌≡◌, ◌<◌, ◌≤◌, [], ◌∷◌, ◌++◌, length, slice_get, Some, OnOk, OnErr};
+ghost use Rattle.adapter.specs.declared.entry.Entry.TheVariants.{Passed};
+ghost use Rattle.adapter.specs.Kept.{entry_kept};
 ghost use Rattle.adapter.specs.Seen.{entry_of};
 
-use crate::call::Call;
 use crate::caller::Caller;
 use crate::entry::EntryView;
-use crate::kept::{Kept, keep_call, keep_frame, show};
+use crate::kept::{Kept, keep_frame, show};
 use crate::parcel::Parcel;
-use crate::reply::Reply;
 use flow_actions::Verdict;
 use std::alloc::{AllocError, Global};
 use std::marker::Model;
@@ -20,20 +19,18 @@ pub(crate) struct History {
 }
 
 impl Model for History {
-    ghost use Rattle.std.specs.Prelude.{List};
-    ghost use Rattle.adapter.specs.declared.entry.Entry.{Entry};
+    ghost use Rattle.adapter.specs.KeptHistory.{KeptHistory};
 
-    ghost Value = { List Entry };
+    ghost Value = { KeptHistory };
 
-    ghost use Rattle.std.specs.Prelude.{map};
-    ghost use Rattle.adapter.specs.Kept.{entry_kept};
+    ghost use Rattle.adapter.specs.HistoryInside.{history_kept};
 
-    ghost view = { λ h. map entry_kept h.items.items };
+    ghost view = { history_kept };
 }
 
 impl History {
     pub(crate) fn new(alloc: Global) -> History
-        ensures { result ≡ [] }
+        ensures { result.entries ≡ [] }
     {
         History {
             alloc,
@@ -42,24 +39,25 @@ impl History {
     }
 
     pub(crate) fn len(&self) -> usize
-        ensures { result ≡ length self.now }
+        ensures { result ≡ length self.now.entries }
     {
         self.items.len()
     }
 
-    pub(crate) fn add_call(
-        &mut self,
-        caller: Caller,
-        call: &Call,
-        reply: Reply,
-    ) -> Result<(), AllocError>
-        ensures ok { OnOk result (self.new ≡ self.old ++ Asked caller call.now reply ∷ []) }
-        ensures err { OnErr result (self.new ≡ self.old) }
+    /// Takes memory for one more entry.
+    pub(crate) fn reserve(&mut self) -> Result<(), AllocError>
+        ensures same { self.new.entries ≡ self.old.entries }
+        ensures room { OnOk result (1 ≤ self.new.room) }
     {
-        self.items.reserve(1)?;
-        let kept = keep_call(self.alloc, caller, call, reply)?;
+        self.items.reserve(1)
+    }
+
+    /// Adds an entry, where memory was taken for it.
+    pub(crate) fn add(&mut self, kept: Kept)
+        requires { 1 ≤ self.old.room }
+        ensures { self.new.entries ≡ self.old.entries ++ entry_kept kept ∷ [] }
+    {
         self.items.push_reserved(kept);
-        Ok(())
     }
 
     pub(crate) fn add_frame(
@@ -68,8 +66,8 @@ impl History {
         parcel: &Parcel,
         verdict: &Verdict,
     ) -> Result<(), AllocError>
-        ensures ok { OnOk result (self.new ≡ self.old ++ Passed caller parcel.now verdict.now ∷ []) }
-        ensures err { OnErr result (self.new ≡ self.old) }
+        ensures ok { OnOk result (self.new.entries ≡ self.old.entries ++ Passed caller parcel.now verdict.now ∷ []) }
+        ensures err { OnErr result (self.new.entries ≡ self.old.entries) }
     {
         self.items.reserve(1)?;
         let kept = keep_frame(self.alloc, caller, parcel, verdict)?;
@@ -78,8 +76,8 @@ impl History {
     }
 
     pub(crate) fn entry(&self, place: usize) -> EntryView<'_>
-        requires { place < length self.now }
-        ensures { slice_get self.now place ≡ Some (entry_of result) }
+        requires { place < length self.now.entries }
+        ensures { slice_get self.now.entries place ≡ Some (entry_of result) }
     {
         show(&self.items[place])
     }

@@ -1,5 +1,5 @@
-//! The plain one-thread adapter: the rules in effect with the actions that they share, and the history of all that was asked and all
-//! that passed.
+//! The plain one-thread adapter: the rules in effect with the actions that they share, templates and tables, and the history of
+//! all that was asked and all that passed.
 //!
 //! Its model in one sentence: an adapter is its limits and its history, a list of entries that is always legal.
 //!
@@ -19,13 +19,17 @@
 //! whoever stands above needs nothing else.
 //!
 //! Between calls the history only grows. A call that meets want of memory leaves the adapter as it was: `step` and
-//! `packet` take what they need before they change anything: a call is judged first (its reply, and what it does), and
-//! carried out when its entry is in the history. A history has at most 2^32 entries; the call that would pass
+//! `packet` take what they need before they change anything: a call is judged first (its reply, and what it does), its entry
+//! is made, and carrying it out is the last step that can want memory; behind it the entry is put into the history. A history has at most 2^32 entries; the call that would pass
 //! this answers want of memory.
 //!
+//! What packets see changes with some calls alone. These changes are kept in a list beside the history (`specs/Changes`), so that a
+//! replica can follow: its version is the number of changes that it has seen, and `changes_from` lends it the others.
+//!
 //! The definitions stand in `specs/`: `History` (what is legal), `State` (what calls do), `Changes` (what packets see of
-//! that), `Standing` (what a reply depends on), `Reply` (what calls answer), `Rows` (what a list of rules tells), `Totals` and
-//! `Counters`; why calls on shared actions are refused stands in `indirect_counters`;
+//! that), `Tables` (templates and tables), `Standing` (what a reply depends on), `Reply` (what calls answer), `Rows` (what a list of rules tells), `Totals` and
+//! `Counters`; why calls on shared actions are refused stands in `indirect_counters`, and why those on templates and tables are
+//! in `template_tables`: a table's taken slots are those of its rules in effect;
 //! what rules do to frames stands in `flow_rules`. A later command adds a case to `State`, `Changes` and `Reply`; nothing
 //! above these words looks inside.
 //!
@@ -38,6 +42,7 @@
 mod adapter;
 mod call;
 mod caller;
+mod change_list;
 mod count;
 mod effect;
 mod entry;
@@ -50,16 +55,19 @@ mod parcel;
 mod raising;
 mod reply;
 mod rows;
-mod shared;
 mod standing;
 mod state;
+mod template_calls;
+mod templates;
 
 pub use adapter::Adapter;
-pub use call::{At, BadKind, Call, Op};
+pub use call::{ActionLists, At, BadKind, Call, Op, TableTemplates};
 pub use caller::Caller;
 pub use entry::{Entry, EntryView};
-pub use laws::changes_are_what_packets_see;
+pub use laws::{
+    changes_are_lawful, changes_are_what_packets_see, changes_begin_with_those_of_a_front,
+    equal_changes_give_equal_flows, frames_change_nothing,
+};
 pub use parcel::Parcel;
 pub use reply::{Reply, Totals};
 pub use rows::{ListRow, RuleList};
-pub use shared::Shared;

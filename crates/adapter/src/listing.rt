@@ -15,7 +15,7 @@ pub(crate) fn list_of(alloc: Global, rules: &[&InEffect]) -> Result<RuleList, Al
 {
     let mut rows = Vec::new(alloc);
     for entry in rules {
-        rows.push(row(&entry.rule))?;
+        rows.push(row(entry.rule.get()))?;
     }
     Ok(RuleList { rows })
 }

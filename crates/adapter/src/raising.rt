@@ -10,9 +10,9 @@ ghost use Rattle.adapter.specs.KeptState.{count_kept};
 ghost use Rattle.adapter.specs.StateInside.{AreInEffect};
 ghost use Rattle.adapter.specs.Raising.{Raises, HasRoomFor, IsKept, IsNamed, IsSharedThere, actions_in, is_count_of, naming_at};
 
-use crate::state::{is_count, value_of};
+use crate::state::value_of;
 use flow_actions::Action;
-use flow_rules::Counter;
+use flow_rules::{Counter, is_count};
 use indirect_counters::Indirects;
 use rules_in_effect::RulesInEffect;
 
@@ -51,7 +51,7 @@ fn actions_of(rules: &RulesInEffect, id: u32) -> usize
     ensures few { result ≤ 16 }
 {
     match rules.get(id) {
-        Some(entry) => entry.rule.actions().list.len(),
+        Some(entry) => entry.rule.get().actions().list.len(),
         None => 0,
     }
 }
@@ -65,11 +65,12 @@ fn named_at(rules: &RulesInEffect, shared: &Indirects, id: u32, place: usize) ->
     let Some(entry) = rules.get(id) else {
         return None;
     };
-    let list = entry.rule.actions().list.as_slice();
+    let rule = entry.rule.get();
+    let list = rule.actions().list.as_slice();
     if place >= list.len() {
         return None;
     }
-    named_by(shared, entry.rule.id(), &list[place])
+    named_by(shared, rule.id(), &list[place])
 }
 
 /// The counter that an action of a rule names, if it comes to COUNT.

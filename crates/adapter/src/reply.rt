@@ -1,8 +1,8 @@
 //! What the adapter answers to a call.
 use crate::call::BadKind;
 use crate::rows::RuleList;
-use crate::shared::Shared;
 use flow_rules::Fault;
+use shared_value::Shared;
 
 /// Frames counted since the session began.
 #[derive(Clone, Copy, Debug, PartialEq, Eq)]
@@ -35,6 +35,18 @@ pub enum Reply {
     IndirectUpdated(u16),
     /// The shared action of this id is gone.
     IndirectDestroyed(u16),
+    /// The pattern template of this id was made.
+    PatternTemplateCreated(u16),
+    /// The pattern template of this id is gone.
+    PatternTemplateDestroyed(u16),
+    /// The actions template of this id was made.
+    ActionsTemplateCreated(u16),
+    /// The actions template of this id is gone.
+    ActionsTemplateDestroyed(u16),
+    /// The table of this id was made.
+    TableCreated(u16),
+    /// The table of this id is gone.
+    TableDestroyed(u16),
     Started,
     Stopped(Shared<Totals>),
     /// The script ends.

@@ -1,7 +1,6 @@
-//! The state: the rules in effect and the actions that they share, and what calls do to them.
-ghost use Rattle.std.specs.Prelude.{◌≡◌, ℕ, ◌+◌, ◌<◌, ◌≤◌, ◌^◌, [], map, flat_map, length, count_by, None, Some, IfOk, IfSome, OnOk};
+//! The state: the rules in effect and the actions that they share, templates and tables, and what calls do to them.
+ghost use Rattle.std.specs.Prelude.{◌≡◌, ℕ, ◌+◌, ◌<◌, ◌≤◌, ◌^◌, [], map, flat_map, length, count_by, None, Some, IfOk, IfSome, OnOk, OnErr};
 ghost use Rattle.std.specs.Option.{option_copied};
-ghost use Rattle.std.specs.List.{list_any};
 ghost use Rattle.flow_rules.specs.declared.counter.Counter.{Counter};
 ghost use Rattle.flow_rules.specs.declared.counter.Counter.TheVariants as counters;
 ghost use Rattle.flow_rules.specs.Faults.{is_count};
@@ -25,18 +24,24 @@ use crate::raising::raise_all;
 use crate::reply::Reply;
 use crate::rows::RuleList;
 use flow_actions::{Action, ActionKind};
-use flow_rules::{Attr, Cause, Count, Fault, FlowsInEffect, Known, Limits, Rule};
+use flow_rules::{
+    Attr, Cause, Count, Fault, FlowsInEffect, Known, Limits, Rule, has_count, is_count,
+};
 use indirect_counters::Indirects;
 use packet_headers::Key;
 use rules_in_effect::RulesInEffect;
+use shared_value::Shared;
 use std::alloc::{AllocError, Global};
 use std::marker::Model;
+use template_tables::Templates;
 
-/// The rules in effect with the actions that they share, what these have counted, and the ids that were given.
+/// The rules in effect with the actions that they share, what these have counted, templates and tables, and the ids that were
+/// given.
 #[derive(Drop)]
 pub(crate) struct State {
     pub(crate) rules: RulesInEffect,
     pub(crate) shared: Indirects,
+    pub(crate) templates: Templates,
     /// Whether a frame that no rule takes is dropped.
     pub(crate) isolated: bool,
     /// How many rule ids were given.
@@ -100,6 +105,7 @@ impl State {
         State {
             rules: RulesInEffect::new(alloc),
             shared: Indirects::new(alloc),
+            templates: Templates::new(alloc),
             isolated: false,
             ids: 0,
             rxq: limits.rxq,
@@ -164,7 +170,10 @@ impl State {
         let Some(entry) = self.rules.get(id) else {
             return Reply::Fault(plain(Cause::NoRule));
         };
-        counted(has_count(entry.rule.actions().list.as_slice()), entry.count)
+        counted(
+            has_count(entry.rule.get().actions().list.as_slice()),
+            entry.count,
+        )
     }
 
     /// What a shared COUNT has counted, or why that can't be told.
@@ -221,15 +230,16 @@ impl State {
         None
     }
 
-    /// Does what an accepted call does.
-    pub(crate) fn carry_out(&mut self, limits: &Limits, effect: Effect)
+    /// Does what an accepted call does. Want of memory leaves the state as it was.
+    pub(crate) fn carry_out(&mut self, limits: &Limits, effect: Effect) -> Result<(), AllocError>
         requires port { limits.now.rxq ≡ (state_in self.old).rxq }
         requires room { 1 ≤ self.old.room }
         requires shared_room { 1 ≤ self.old.shared_room }
         requires numbers { (done (state_in self.old) effect).ids < 2 ^ 32 }
         requires due { IsDue (state_in self.old) effect }
-        ensures state { (state_in self.new) ≡ done (state_in self.old) effect }
-        ensures counts { (c : Counter) → count_in self.new c ≡ while_there (is_there c (flows_of (state_in self.new))) (count_in self.old c) }
+        ensures state { OnOk result ((state_in self.new) ≡ done (state_in self.old) effect) }
+        ensures counts { OnOk result ((c : Counter) → count_in self.new c ≡ while_there (is_there c (flows_of (state_in self.new))) (count_in self.old c)) }
+        ensures stays { OnErr result (self.new ≡ self.old) }
     {
         match effect {
             Effect::Nothing => self.stay(),
@@ -240,7 +250,23 @@ impl State {
             Effect::SharedCreated(id, action) => self.share(id, &action),
             Effect::SharedUpdated(id, action) => self.replace(limits, id, &action),
             Effect::SharedDestroyed(id) => self.unshare(id),
+            Effect::PatternGone(id) => self.end_pattern(id),
+            Effect::ActionsGone(id) => self.end_actions(id),
+            Effect::TableGone(id) => self.end_table(id),
+            Effect::PatternMade { id, attr, pattern } => {
+                return self.make_pattern(id, &attr, pattern.get());
+            }
+            Effect::ActionsMade { id, attr, lists } => {
+                return self.make_actions(id, &attr, lists.get());
+            }
+            Effect::TableMade {
+                id,
+                attr,
+                rules_number,
+                templates,
+            } => return self.make_table(id, &attr, rules_number, templates.get()),
         }
+        Ok(())
     }
 
     /// Nothing happens; a counter that isn't there stands at 0 as it is.
@@ -251,7 +277,7 @@ impl State {
     }
 
     /// A rule takes effect, behind all others, and an id is given.
-    fn create(&mut self, rule: Rule)
+    fn create(&mut self, rule: Shared<Rule>)
         requires room { 1 ≤ self.old.room }
         requires numbers { (state_in self.old).ids + 1 < 2 ^ 32 }
         requires fresh { rule_at rule.id (map rule_in (state_in self.old).rules) ≡ None }
@@ -333,19 +359,6 @@ impl State {
         let _number = self.rules.len();
         raise_all(&mut self.rules, &mut self.shared, path, bytes);
     }
-}
-
-/// Whether one of the actions counts frames for its own rule.
-fn has_count(list: &[Action]) -> bool
-    ensures { result ≡ list_any is_count list.now }
-{
-    list.iter().any(|action| is_count(action))
-}
-
-pub(crate) fn is_count(action: &Action) -> bool
-    ensures { result ≡ is_count action.now }
-{
-    matches!(action, Action::Count)
 }
 
 /// What a counter stands at, if it is there.

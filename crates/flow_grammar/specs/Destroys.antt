@@ -12,16 +12,25 @@ use Rattle.flow_grammar.specs.Words.{at_end}
 abbrev pub id_word : Object → List ℕ
 id_word objects.Rule = codes "rule"
 id_word objects.Indirect = codes "action_id"
+id_word objects.PatternTemplate = codes "pattern_template"
+id_word objects.ActionsTemplate = codes "actions_template"
+id_word objects.Table = codes "table"
 
 -- how many bits an id has
 abbrev pub id_bits : Object → ℕ
 id_bits objects.Rule = 32
 id_bits objects.Indirect = 16
+id_bits objects.PatternTemplate = 16
+id_bits objects.ActionsTemplate = 16
+id_bits objects.Table = 16
 
 -- the call that destroys one of them
 abbrev pub destroy_of : Object → ℕ → Op
 destroy_of objects.Rule id = ops.Destroy id
 destroy_of objects.Indirect id = ops.IndirectDestroy id
+destroy_of objects.PatternTemplate id = ops.PatternTemplateDestroy id
+destroy_of objects.ActionsTemplate id = ops.ActionsTemplateDestroy id
+destroy_of objects.Table id = ops.TableDestroy id
 
 -- `WORD ID { WORD ID }` and no more: at most 64 ids of so many bits
 unfoldable pub listed_ids : List ℕ → ℕ → List (List ℕ) → Option (List ℕ)

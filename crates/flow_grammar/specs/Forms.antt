@@ -22,6 +22,7 @@ use Rattle.flow_grammar.specs.declared.destroys.Object.TheVariants as objects
 use Rattle.flow_grammar.specs.Words.{behind, at_end}
 use Rattle.flow_grammar.specs.Destroys.{destroys_of}
 use Rattle.flow_grammar.specs.IndirectActions.{indirect_asked}
+use Rattle.flow_grammar.specs.Templates.{patterns_asked, actions_asked, tables_asked}
 
 -- the actions of words that end with them
 unfoldable pub last_actions_of : List (List ℕ) → Option Actions
@@ -58,6 +59,9 @@ verbs =
     ∷ (codes "isolate", verb.Isolate)
     ∷ (codes "query", verb.Query)
     ∷ (codes "indirect_action", verb.IndirectAction)
+    ∷ (codes "pattern_template", verb.PatternTemplate)
+    ∷ (codes "actions_template", verb.ActionsTemplate)
+    ∷ (codes "template_table", verb.TemplateTable)
     ∷ []
 
 -- what the words behind `flow VERB PORT` ask
@@ -70,6 +74,9 @@ asked verb.List words = at_end words (ops.List ∷ [])
 asked verb.Isolate words = option_map (λ op. op ∷ []) (switch_of words)
 asked verb.Query words = option_map (λ op. op ∷ []) (query_of words)
 asked verb.IndirectAction words = indirect_asked words
+asked verb.PatternTemplate words = patterns_asked words
+asked verb.ActionsTemplate words = actions_asked words
+asked verb.TemplateTable words = tables_asked words
 
 -- a flow line asks on port 0, the only one
 abbrev pub on_port : ℕ → List Op → Line

@@ -1,5 +1,5 @@
 -- What `flow indirect_action PORT ..` asks: actions that rules share.
-use Rattle.std.specs.Prelude.{ℕ, List, [], ◌∷◌, bytes_eq, codes, Option, None, Some, option_map, if◌then◌else◌}
+use Rattle.std.specs.Prelude.{ℕ, List, [], ◌∷◌, codes, Option, None, Some, option_map}
 use Rattle.adapter.specs.declared.call.Op.{Op}
 use Rattle.adapter.specs.declared.call.Op.TheVariants as ops
 use Rattle.flow_actions.specs.declared.action.Action.{Action}
@@ -11,7 +11,7 @@ use Rattle.rule_words.specs.Actions.{action_of}
 use Rattle.flow_grammar.specs.declared.destroys.Object.TheVariants as objects
 use Rattle.flow_grammar.specs.declared.indirect_actions.IndirectVerb.{IndirectVerb}
 use Rattle.flow_grammar.specs.declared.indirect_actions.IndirectVerb.TheVariants as verb
-use Rattle.flow_grammar.specs.Words.{behind, at_end}
+use Rattle.flow_grammar.specs.Words.{behind, at_end, given_id}
 use Rattle.flow_grammar.specs.Destroys.{destroys_of}
 
 -- the verbs behind the port
@@ -29,12 +29,6 @@ last_action_of words = do
   action ← action_of words
   rest ← behind (codes "end") action.1
   at_end rest action.0
-
--- an id of 16 bits, where words begin with its name, and the words behind it
-abbrev pub given_id : List ℕ → List (List ℕ) → Option (Option ℕ × List (List ℕ))
-given_id name [] = Some (None, [])
-given_id name (word ∷ words) =
-    if bytes_eq word name then option_map (λ id. (Some id.0, id.1)) (first_number 16 words) else Some (None, word ∷ words)
 
 -- `[action_id ID] DIRS action ACTION / end`
 unfoldable pub create_of : List (List ℕ) → Option Op

@@ -7,4 +7,5 @@ pub mod Line
 pub mod Lines
 pub mod Program
 pub mod Calls
+pub mod Templates
 pub mod Words

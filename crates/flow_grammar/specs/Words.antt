@@ -1,6 +1,7 @@
 -- The words of a line.
-use Rattle.std.specs.Prelude.{ℕ, ◌==◌, ◌||◌, ◌&&◌, Bool, true, false, not, nat_le, List, [], ◌∷◌, filter, bytes_eq, Option, None, Some, if◌then◌else◌}
+use Rattle.std.specs.Prelude.{ℕ, ◌==◌, ◌||◌, ◌&&◌, Bool, true, false, not, nat_le, List, [], ◌∷◌, filter, bytes_eq, Option, None, Some, option_map, if◌then◌else◌}
 use Rattle.std.specs.List.{slice_split, take_while, list_all}
+use Rattle.rule_words.specs.Number.{first_number}
 
 -- a space (32) or a tab (9)
 abbrev pub is_blank : ℕ → Bool
@@ -37,3 +38,9 @@ behind leading (word ∷ words) = if bytes_eq word leading then Some words else 
 abbrev pub at_end : {X : Type 0} → List (List ℕ) → X → Option X
 at_end [] x = Some x
 at_end (word ∷ words) x = None
+
+-- an id of 16 bits, where words begin with its name, and the words behind it
+abbrev pub given_id : List ℕ → List (List ℕ) → Option (Option ℕ × List (List ℕ))
+given_id name [] = Some (None, [])
+given_id name (word ∷ words) =
+    if bytes_eq word name then option_map (λ id. (Some id.0, id.1)) (first_number 16 words) else Some (None, word ∷ words)

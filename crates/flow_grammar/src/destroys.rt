@@ -14,6 +14,10 @@ pub(crate) enum Object {
     Rule,
     /// An action that rules share.
     Indirect,
+    PatternTemplate,
+    ActionsTemplate,
+    /// A template table.
+    Table,
 }
 
 /// The most ids of a line that destroys: it asks for as many calls.
@@ -27,6 +31,9 @@ impl Object {
         match self {
             Object::Rule => b"rule",
             Object::Indirect => b"action_id",
+            Object::PatternTemplate => b"pattern_template",
+            Object::ActionsTemplate => b"actions_template",
+            Object::Table => b"table",
         }
     }
 
@@ -38,6 +45,9 @@ impl Object {
         match self {
             Object::Rule => 32,
             Object::Indirect => 16,
+            Object::PatternTemplate => 16,
+            Object::ActionsTemplate => 16,
+            Object::Table => 16,
         }
     }
 
@@ -49,6 +59,9 @@ impl Object {
         match self {
             Object::Rule => Op::Destroy(id),
             Object::Indirect => Op::IndirectDestroy(id as u16),
+            Object::PatternTemplate => Op::PatternTemplateDestroy(id as u16),
+            Object::ActionsTemplate => Op::ActionsTemplateDestroy(id as u16),
+            Object::Table => Op::TableDestroy(id as u16),
         }
     }
 }

@@ -1,15 +1,15 @@
 //! The forms of a line.
-ghost use Rattle.std.specs.Prelude.{◌≡◌, IfOk, map, option_map};
+ghost use Rattle.std.specs.Prelude.{◌≡◌, IfOk, map};
 ghost use Rattle.flow_grammar.specs.Forms as spec;
-ghost use Rattle.rule_words.specs.Number.{first_number};
 ghost use Rattle.rule_words.specs.Vocabulary.{meaning_of};
 
 use crate::line::Line;
+use crate::numbers::number_32;
 use crate::op_list::OpList;
 use crate::verbs::{read_ops, verb_of};
 use crate::words::if_last;
 use adapter::BadKind;
-use rule_words::{first_number, meaning};
+use rule_words::meaning;
 use std::alloc::{AllocError, Global};
 
 /// The most frames of a `forward`: as many as phases reach.
@@ -103,13 +103,4 @@ fn on_port(port: u32, ops: OpList) -> Line
         return Line::Bad(BadKind::Port);
     }
     Line::Calls(ops)
-}
-
-/// The first word as a number of 32 bits, and the words behind it.
-fn number_32<'w, 'a>(words: &'w [&'a [u8]]) -> Option<(u32, &'w [&'a [u8]])>
-    ensures { option_map (λ read. (read.0, map (λ word. word.now) read.1.now)) result
-        ≡ first_number 32 (map (λ word. word.now) words.entry.now) }
-{
-    let (number, rest) = first_number(32, words)?;
-    Some((number as u32, rest))
 }

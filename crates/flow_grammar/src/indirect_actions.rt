@@ -2,16 +2,17 @@
 ghost use Rattle.std.specs.Prelude.{◌≡◌, [], ◌∷◌, IfOk, map, option_map};
 ghost use Rattle.adapter.specs.declared.call.Op.TheVariants as ops;
 ghost use Rattle.flow_grammar.specs.IndirectActions as spec;
-ghost use Rattle.rule_words.specs.Number.{first_number};
 ghost use Rattle.rule_words.specs.Vocabulary.{meaning_of};
 
 use crate::destroys::{Object, read_destroys};
+use crate::numbers::{given_id, number_16};
 use crate::op_list::{OpList, one_op};
 use crate::words::{behind, if_last};
-use adapter::{Op, Shared};
+use adapter::Op;
 use flow_actions::Action;
 use flow_rules::Attr;
-use rule_words::{first_number, meaning, read_action, read_directions};
+use rule_words::{meaning, read_action, read_directions};
+use shared_value::Shared;
 use std::alloc::{AllocError, Global};
 
 /// What is asked of an action that rules share.
@@ -125,28 +126,4 @@ fn read_last_action(words: &[&[u8]]) -> Option<Action>
     let (action, rest) = read_action(words)?;
     let rest = behind(b"end", rest)?;
     if_last(rest, action)
-}
-
-/// An id, where words begin with its name, and the words behind it.
-fn given_id<'w, 'a>(name: &[u8], words: &'w [&'a [u8]]) -> Option<(Option<u16>, &'w [&'a [u8]])>
-    ensures { option_map (λ read. (read.0, map (λ word. word.now) read.1.now)) result
-        ≡ spec.given_id name.now (map (λ word. word.now) words.entry.now) }
-{
-    let Some((word, rest)) = words.split_first() else {
-        return Some((None, words));
-    };
-    if *word != name {
-        return Some((None, words));
-    }
-    let (id, rest) = number_16(rest)?;
-    Some((Some(id), rest))
-}
-
-/// The first word as a number of 16 bits, and the words behind it.
-fn number_16<'w, 'a>(words: &'w [&'a [u8]]) -> Option<(u16, &'w [&'a [u8]])>
-    ensures { option_map (λ read. (read.0, map (λ word. word.now) read.1.now)) result
-        ≡ first_number 16 (map (λ word. word.now) words.entry.now) }
-{
-    let (number, rest) = first_number(16, words)?;
-    Some((number as u16, rest))
 }

@@ -18,8 +18,9 @@
 //! - Words stand between spaces and tabs. One that begins with `#` begins a comment, which reaches to the line's end.
 //!   An unprintable byte in front of the comment makes the line bad. A line without words is blank.
 //! - The forms are `flow validate`, `create`, `destroy`, `flush`, `query`, `list` and `isolate`, `flow indirect_action` with
-//!   `create`, `update`, `destroy` and `query`, and `start`, `forward NUMBER`, `stop` and `quit`. A line that fits none is bad, and so is one with a value that is wider than its field. A flow line
-//!   with a port other than 0 is bad in a way of its own. The parts of a rule are read by `rule_words`.
+//!   `create`, `update`, `destroy` and `query`, `flow pattern_template`, `actions_template` and `template_table` with `create` and
+//!   `destroy`, and `start`, `forward NUMBER`, `stop` and `quit`. A line that fits none is bad, and so is one with a value that
+//!   is wider than its field. A flow line with a port other than 0 is bad in a way of its own. The parts of a rule are read by `rule_words`.
 //! - A call has the place of its line, and of its part in the line, for lines that ask for several. `start` in a phase
 //!   is a bad call of that phase. Where `quit` or the end of the script meets an open phase, a `stop` closes it.
 //! - A script has at most 65,536 lines and 65,536 calls.
@@ -27,8 +28,8 @@
 //! The model: a line is a list of words. Its first word names a command, and the second word of a flow line a verb; what
 //! the words behind them say is a definition by cases, a short one for each. A program is a recursion over the numbered
 //! lines, which remembers the phase that is open and the calls since the last part. `specs/Words` has the words of a line,
-//! `specs/Forms` the commands and verbs, `specs/IndirectActions` those of actions that rules share, `specs/Destroys` the
-//! lines that destroy things by their ids, `specs/Line` the reading, `specs/Lines` the lines of a script, `specs/Program` the
+//! `specs/Forms` the commands and verbs, `specs/IndirectActions` those of actions that rules share, `specs/Templates` those of templates and tables,
+//! `specs/Destroys` the lines that destroy things by their ids, `specs/Line` the reading, `specs/Lines` the lines of a script, `specs/Program` the
 //! recursion, `specs/Calls` its calls by caller, and `specs/Limits` the limits. A new form is a row of the verbs and a case
 //! of `asked`, in `specs/Forms` and in `verbs.rt`, and none of it is a case of the recursion.
 //!
@@ -49,10 +50,12 @@ mod forms;
 mod indirect_actions;
 mod line;
 mod lines;
+mod numbers;
 mod op_list;
 mod part;
 mod program_fault;
 mod script;
+mod templates;
 mod verbs;
 mod words;
 

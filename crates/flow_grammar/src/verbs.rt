@@ -6,11 +6,13 @@ ghost use Rattle.rule_words.specs.Vocabulary.{meaning_of};
 use crate::destroys::{Object, read_destroys};
 use crate::indirect_actions::read_indirect;
 use crate::op_list::{OpList, one_op};
+use crate::templates::{read_actions_template, read_pattern_template, read_template_table};
 use crate::words::{behind, if_last};
-use adapter::{Op, Shared};
+use adapter::Op;
 use flow_actions::Actions;
 use flow_rules::RuleSpec;
 use rule_words::{first_number, flag_and_rest, meaning, read_actions, read_attributes, read_items};
+use shared_value::Shared;
 use std::alloc::{AllocError, Global};
 
 /// What a flow line asks for.
@@ -24,9 +26,12 @@ pub(crate) enum Verb {
     Isolate,
     Query,
     IndirectAction,
+    PatternTemplate,
+    ActionsTemplate,
+    TemplateTable,
 }
 
-static VERBS: [(&str, Verb); 8] = [
+static VERBS: [(&str, Verb); 11] = [
     ("validate", Verb::Validate),
     ("create", Verb::Create),
     ("destroy", Verb::Destroy),
@@ -35,6 +40,9 @@ static VERBS: [(&str, Verb); 8] = [
     ("isolate", Verb::Isolate),
     ("query", Verb::Query),
     ("indirect_action", Verb::IndirectAction),
+    ("pattern_template", Verb::PatternTemplate),
+    ("actions_template", Verb::ActionsTemplate),
+    ("template_table", Verb::TemplateTable),
 ];
 
 /// The verb that a word is.
@@ -73,6 +81,9 @@ pub(crate) fn read_ops(
         Verb::Isolate => one_op(alloc, read_switch(words)),
         Verb::Query => one_op(alloc, read_query(words)),
         Verb::IndirectAction => read_indirect(alloc, words),
+        Verb::PatternTemplate => read_pattern_template(alloc, words),
+        Verb::ActionsTemplate => read_actions_template(alloc, words),
+        Verb::TemplateTable => read_template_table(alloc, words),
     }
 }
 

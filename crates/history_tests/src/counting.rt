@@ -3,12 +3,13 @@
 //! The adapter keeps running numbers. The plain counter keeps nothing between two looks: it goes over all entries from the
 //! first one and takes from each what it tells, so what it expects of a query comes from the history alone.
 use crate::frames::{call, key};
-use adapter::{Adapter, Caller, EntryView, Op, Parcel, Reply, Shared};
+use adapter::{Adapter, Caller, EntryView, Op, Parcel, Reply};
 use arrayvec::ArrayVec;
 use flow_actions::{Action, Actions};
 use flow_rules::{Attr, Cause, Count, Fault, Limits, RuleSpec};
 use packet_headers::ItemKind;
 use pattern_items::{Item, Pattern};
+use shared_value::Shared;
 use std::alloc::{AllocError, Global};
 use std::process::Abort;
 
@@ -420,26 +421,42 @@ fn hits_of_objects(plain: &Plain) -> u64 {
     hits
 }
 
+/// All counters are asked for: how often rules, and shared actions, have counted.
+fn look_at_all(
+    rt: &impl Abort,
+    alloc: Global,
+    adapter: &mut Adapter,
+    look: u32,
+) -> Result<(u64, u64), AllocError> {
+    let plain = fold(alloc, adapter)?;
+    look_at_rules(rt, adapter, &plain, look)?;
+    look_at_objects(rt, adapter, &plain, look)?;
+    Ok((hits_of_rules(&plain), hits_of_objects(&plain)))
+}
+
 /// Steps, each time with a look at all counters behind them. Counters of both kinds rise on the way.
-fn go_through(rt: &impl Abort, alloc: Global, seed: u32) -> Result<(), AllocError> {
-    let mut adapter = Adapter::new(alloc, LIMITS)?;
+fn go_on(
+    rt: &impl Abort,
+    alloc: Global,
+    adapter: &mut Adapter,
+    seed: u32,
+) -> Result<(), AllocError> {
     let mut rules: u64 = 0;
     let mut objects: u64 = 0;
     for look in 0..STEPS / LOOKS {
-        take_steps(
-            alloc,
-            &mut adapter,
-            seed.wrapping_mul(STEPS).wrapping_add(look),
-        )?;
-        let plain = fold(alloc, &adapter)?;
-        look_at_rules(rt, &mut adapter, &plain, look)?;
-        look_at_objects(rt, &mut adapter, &plain, look)?;
-        rules = rules.wrapping_add(hits_of_rules(&plain));
-        objects = objects.wrapping_add(hits_of_objects(&plain));
+        take_steps(alloc, adapter, seed.wrapping_mul(STEPS).wrapping_add(look))?;
+        let (of_rules, of_objects) = look_at_all(rt, alloc, adapter, look)?;
+        rules = rules.wrapping_add(of_rules);
+        objects = objects.wrapping_add(of_objects);
     }
     assert!(rt; rules > 0, "no rule counts with seed {seed}");
     assert!(rt; objects > 0, "no shared action counts with seed {seed}");
     Ok(())
+}
+
+fn go_through(rt: &impl Abort, alloc: Global, seed: u32) -> Result<(), AllocError> {
+    let mut adapter = Adapter::new(alloc, LIMITS)?;
+    go_on(rt, alloc, &mut adapter, seed)
 }
 
 #[test]

@@ -1,5 +1,5 @@
 //! Generated frames of all kinds of headers, on ways of all lengths, through an adapter's history and back.
-use adapter::{Adapter, At, Call, Caller, EntryView, Op, Parcel, Shared};
+use adapter::{Adapter, At, Call, Caller, EntryView, Op, Parcel};
 use arrayvec::ArrayVec;
 use flow_actions::{ALL_RSS_TYPES, Action, Actions, Fate, Rss, Verdict};
 use flow_rules::{Attr, Limits, RuleSpec};
@@ -8,6 +8,7 @@ use packet_headers::{
     Vxlan,
 };
 use pattern_items::Pattern;
+use shared_value::Shared;
 use std::alloc::{AllocError, Global};
 use std::process::Abort;
 
@@ -219,25 +220,49 @@ const fn ids_before(way: u32) -> u32 {
     way % 7
 }
 
-/// An adapter with the rules of a way, the last of which took effect first. Where it has none, a frame is dropped in isolated mode
-/// alone.
+fn ask(adapter: &mut Adapter, op: Op) -> Result<(), AllocError> {
+    adapter.step(Caller::SHELL, &call(op))?;
+    Ok(())
+}
+
+fn create(alloc: Global, adapter: &mut Adapter, spec: RuleSpec) -> Result<(), AllocError> {
+    let rule = Shared::new(alloc, spec)?;
+    ask(adapter, Op::Create(rule))
+}
+
+/// Rules come and go, so that the next has a later id.
+fn give_ids(alloc: Global, adapter: &mut Adapter, way: u32) -> Result<(), AllocError> {
+    for id in 0..ids_before(way) {
+        create(alloc, adapter, rule_of(1, 0))?;
+        ask(adapter, Op::Destroy(id))?;
+    }
+    Ok(())
+}
+
+/// The rules of a way take effect, the last one first.
+fn create_all(alloc: Global, adapter: &mut Adapter, way: u32) -> Result<(), AllocError> {
+    for behind in 0..rules_of(way) {
+        let group = rules_of(way).saturating_sub(1).saturating_sub(behind);
+        create(alloc, adapter, rule_of(way, group))?;
+    }
+    Ok(())
+}
+
+/// An adapter gets the rules of a way. Where it has none, a frame is dropped in isolated mode alone.
+fn prepare(alloc: Global, adapter: &mut Adapter, way: u32) -> Result<(), AllocError> {
+    ask(adapter, Op::Isolate(way % 3 == 0))?;
+    give_ids(alloc, adapter, way)?;
+    create_all(alloc, adapter, way)
+}
+
+/// An adapter with the rules of a way.
 fn adapter_of(alloc: Global, way: u32) -> Result<Adapter, AllocError> {
     let limits = Limits {
         rxq: 16,
         flow_max: 4096,
     };
     let mut adapter = Adapter::new(alloc, limits)?;
-    adapter.step(Caller::SHELL, &call(Op::Isolate(way % 3 == 0)))?;
-    for id in 0..ids_before(way) {
-        let rule = Shared::new(alloc, rule_of(1, 0))?;
-        adapter.step(Caller::SHELL, &call(Op::Create(rule)))?;
-        adapter.step(Caller::SHELL, &call(Op::Destroy(id)))?;
-    }
-    for behind in 0..rules_of(way) {
-        let group = rules_of(way).saturating_sub(1).saturating_sub(behind);
-        let rule = Shared::new(alloc, rule_of(way, group))?;
-        adapter.step(Caller::SHELL, &call(Op::Create(rule)))?;
-    }
+    prepare(alloc, &mut adapter, way)?;
     Ok(adapter)
 }
 

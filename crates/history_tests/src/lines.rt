@@ -50,9 +50,19 @@ fn expect_reply(
     expect_line(rt, entry, line)
 }
 
+/// A caller, a reply, and the line of its entry.
+type Row<'a> = (u8, Reply, &'a [u8]);
+
+fn expect_replies(rt: &(impl Abort + AllocGlobal), rows: &[Row<'_>]) -> Result<(), Fail> {
+    for (caller, reply, line) in rows {
+        expect_reply(rt, *caller, reply, line)?;
+    }
+    Ok(())
+}
+
 #[test]
-fn each_reply_has_its_text(rt: HostRuntime) -> Result<(), Fail> {
-    let rows: [(u8, Reply, &[u8]); 19] = [
+fn rules_have_their_texts(rt: HostRuntime) -> Result<(), Fail> {
+    let rows: [Row<'_>; 5] = [
         (0, Reply::Validated, b"shell 12.1: Flow rule validated\n"),
         (1, Reply::Created(7), b"agent0 12.1: Flow rule #7 created\n"),
         (
@@ -61,6 +71,14 @@ fn each_reply_has_its_text(rt: HostRuntime) -> Result<(), Fail> {
             b"agent7 12.1: Flow rule #4294967294 destroyed\n",
         ),
         (0, Reply::Flushed, b"shell 12.1: Flow rules flushed\n"),
+        (2, Reply::Created(0), b"agent1 12.1: Flow rule #0 created\n"),
+    ];
+    expect_replies(&rt, &rows)
+}
+
+#[test]
+fn counts_and_shared_actions_have_their_texts(rt: HostRuntime) -> Result<(), Fail> {
+    let rows: [Row<'_>; 6] = [
         (
             0,
             Reply::Counted(2, 114),
@@ -94,6 +112,13 @@ fn each_reply_has_its_text(rt: HostRuntime) -> Result<(), Fail> {
             Reply::IndirectDestroyed(0),
             b"shell 12.1: Indirect action #0 destroyed\n",
         ),
+    ];
+    expect_replies(&rt, &rows)
+}
+
+#[test]
+fn isolation_and_phases_have_their_texts(rt: HostRuntime) -> Result<(), Fail> {
+    let rows: [Row<'_>; 4] = [
         (
             0,
             Reply::Isolated(true),
@@ -110,6 +135,13 @@ fn each_reply_has_its_text(rt: HostRuntime) -> Result<(), Fail> {
             b"shell 12.1: Packet forwarding started\n",
         ),
         (0, Reply::Bye, b"shell 12.1: Bye\n"),
+    ];
+    expect_replies(&rt, &rows)
+}
+
+#[test]
+fn bad_lines_have_their_texts(rt: HostRuntime) -> Result<(), Fail> {
+    let rows: [Row<'_>; 4] = [
         (
             0,
             Reply::Bad(BadKind::Arguments),
@@ -126,12 +158,45 @@ fn each_reply_has_its_text(rt: HostRuntime) -> Result<(), Fail> {
             Reply::Bad(BadKind::AlreadyStarted),
             b"shell 12.1: Packet forwarding already started\n",
         ),
-        (2, Reply::Created(0), b"agent1 12.1: Flow rule #0 created\n"),
     ];
-    for (caller, reply, line) in &rows {
-        expect_reply(&rt, *caller, reply, line)?;
-    }
-    Ok(())
+    expect_replies(&rt, &rows)
+}
+
+#[test]
+fn templates_and_tables_have_their_texts(rt: HostRuntime) -> Result<(), Fail> {
+    let rows: [Row<'_>; 6] = [
+        (
+            0,
+            Reply::PatternTemplateCreated(7),
+            b"shell 12.1: Pattern template #7 created\n",
+        ),
+        (
+            0,
+            Reply::PatternTemplateDestroyed(65535),
+            b"shell 12.1: Pattern template #65535 destroyed\n",
+        ),
+        (
+            0,
+            Reply::ActionsTemplateCreated(0),
+            b"shell 12.1: Actions template #0 created\n",
+        ),
+        (
+            0,
+            Reply::ActionsTemplateDestroyed(1),
+            b"shell 12.1: Actions template #1 destroyed\n",
+        ),
+        (
+            0,
+            Reply::TableCreated(65535),
+            b"shell 12.1: Template table #65535 created\n",
+        ),
+        (
+            0,
+            Reply::TableDestroyed(2),
+            b"shell 12.1: Template table #2 destroyed\n",
+        ),
+    ];
+    expect_replies(&rt, &rows)
 }
 
 /// A cause with the place 3, and what stands behind `Caught error type `.
@@ -256,6 +321,31 @@ const fn bad(place: u64, kind: CaptureKind) -> Ending {
     Ending::Bad { place, kind }
 }
 
+/// The text of an adapter without entries whose capture ended so.
+fn expect_ending(
+    rt: &(impl Abort + AllocGlobal),
+    adapter: &Adapter,
+    ending: Ending,
+    line: &str,
+) -> Result<(), Fail> {
+    let text = format!(in rt.alloc(); "total received 0 dropped 0 queues 0\n{line}")?;
+    let mut sink = MemSink::new(rt.alloc(), 1000, None)?;
+    assert_eq!(rt; print_history(adapter, ending, &mut sink), Ok(()));
+    assert_eq!(rt; sink.taken(), text.as_bytes());
+    Ok(())
+}
+
+fn expect_endings(
+    rt: &(impl Abort + AllocGlobal),
+    adapter: &Adapter,
+    rows: &[(Ending, &str)],
+) -> Result<(), Fail> {
+    for (ending, line) in rows {
+        expect_ending(rt, adapter, *ending, line)?;
+    }
+    Ok(())
+}
+
 #[test]
 fn each_ending_has_its_line(rt: HostRuntime) -> Result<(), Fail> {
     let rows: [(Ending, &str); 9] = [
@@ -291,11 +381,5 @@ fn each_ending_has_its_line(rt: HostRuntime) -> Result<(), Fail> {
         (Ending::ReadFault, "capture: read fault\n"),
     ];
     let adapter = Adapter::new(rt.alloc(), LIMITS)?;
-    for (ending, line) in &rows {
-        let text = format!(in rt.alloc(); "total received 0 dropped 0 queues 0\n{line}")?;
-        let mut sink = MemSink::new(rt.alloc(), 1000, None)?;
-        assert_eq!(rt; print_history(&adapter, *ending, &mut sink), Ok(()));
-        assert_eq!(rt; sink.taken(), text.as_bytes());
-    }
-    Ok(())
+    expect_endings(&rt, &adapter, &rows)
 }

@@ -8,3 +8,4 @@ pub mod ReplyLaws
 pub mod VerdictLaws
 pub mod EndingLaws
 pub mod TranscriptLaws
+pub mod TransmitLaws

@@ -21,7 +21,8 @@ all_causes = causes.GroupRange ∷ causes.PriorityRange ∷ causes.NoIngress ∷
 abbrev pub all_kinds : List Kind
 all_kinds = kinds.Validated ∷ kinds.Created ∷ kinds.Destroyed ∷ kinds.Flushed ∷ kinds.Counted ∷ kinds.Listed
     ∷ kinds.Isolated true ∷ kinds.Isolated false ∷ kinds.IndirectCreated ∷ kinds.IndirectUpdated ∷ kinds.IndirectDestroyed
-    ∷ kinds.Started ∷ kinds.Stopped ∷ kinds.Bye ∷ kinds.Bad bads.Arguments
+    ∷ kinds.PatternTemplateCreated ∷ kinds.PatternTemplateDestroyed ∷ kinds.ActionsTemplateCreated ∷ kinds.ActionsTemplateDestroyed
+    ∷ kinds.TableCreated ∷ kinds.TableDestroyed ∷ kinds.Started ∷ kinds.Stopped ∷ kinds.Bye ∷ kinds.Bad bads.Arguments
     ∷ kinds.Bad bads.Port ∷ kinds.Bad bads.NotStarted ∷ kinds.Bad bads.AlreadyStarted
     ∷ map kinds.Refused all_causes
 

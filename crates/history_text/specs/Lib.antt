@@ -11,3 +11,4 @@ pub mod Verdicts
 pub mod Endings
 pub mod Told
 pub mod Text
+pub mod Transmit

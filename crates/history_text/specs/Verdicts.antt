@@ -26,6 +26,10 @@ abbrev pub hash_text : Option ℕ → List ℕ
 hash_text None = codes "-"
 hash_text (Some hash) = hexadecimal hash
 
+-- what stands between the fate and the way
+abbrev pub marks_text : Option ℕ → Option ℕ → List ℕ
+marks_text mark hash = codes " mark " ++ (mark_text mark ++ (codes " hash " ++ (hash_text hash ++ codes " path ")))
+
 -- the ids of the rules on a frame's way
 abbrev pub path_text : List ℕ → List ℕ
 path_text [] = codes "-"

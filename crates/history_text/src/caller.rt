@@ -3,8 +3,9 @@ ghost use Rattle.io_edges.specs.Gather.{gather_of};
 ghost use Rattle.io_edges.specs.Prints.{Prints};
 ghost use Rattle.history_text.specs.Callers.{caller_text};
 
+use crate::number::print_short;
 use adapter::Caller;
-use io_edges::{Page, Sink, print, print_number};
+use io_edges::{Page, Sink, print};
 
 /// The number of the first agent, and of the first worker.
 const FIRST_AGENT: u8 = 1;
@@ -18,12 +19,12 @@ pub(crate) fn print_caller<K: Sink>(sink: &mut K, page: &mut Page, caller: Calle
 {
     if caller.0 >= FIRST_WORKER {
         print(sink, page, b"worker");
-        print_number(sink, page, caller.0 - FIRST_WORKER);
+        print_short(sink, page, (caller.0 - FIRST_WORKER) as u32);
         return;
     }
     if caller.0 >= FIRST_AGENT {
         print(sink, page, b"agent");
-        print_number(sink, page, caller.0 - FIRST_AGENT);
+        print_short(sink, page, (caller.0 - FIRST_AGENT) as u32);
         return;
     }
     print(sink, page, b"shell");

@@ -41,9 +41,11 @@ mod cause;
 mod ending;
 mod form;
 mod kind;
+mod number;
 mod read_back;
 mod reply;
 mod row;
+mod sending;
 mod totals;
 mod transcript;
 mod verdict;
@@ -53,4 +55,5 @@ pub use read_back::{
     kinds_are_read_back, replies_are_told_apart, transcripts_are_told_apart,
     verdicts_are_told_apart,
 };
+pub use sending::transmit_files_grow;
 pub use transcript::{print_entry, print_history};

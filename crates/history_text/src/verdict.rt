@@ -2,8 +2,9 @@
 ghost use Rattle.std.specs.Prelude.{◌≡◌};
 ghost use Rattle.io_edges.specs.Gather.{gather_of};
 ghost use Rattle.io_edges.specs.Prints.{Prints};
-ghost use Rattle.history_text.specs.Verdicts.{last_digit, hexadecimal, fate_text, mark_text, hash_text, path_text, verdict_text};
+ghost use Rattle.history_text.specs.Verdicts.{last_digit, hexadecimal, fate_text, mark_text, hash_text, marks_text, path_text, verdict_text};
 
+use crate::number::print_short;
 use flow_actions::{Fate, Verdict};
 use io_edges::{Page, Sink, print, print_number, print_numbers};
 
@@ -44,7 +45,7 @@ fn print_fate<K: Sink>(sink: &mut K, page: &mut Page, fate: Fate)
     match fate {
         Fate::Queue(queue) => {
             print(sink, page, b"queue ");
-            print_number(sink, page, queue);
+            print_short(sink, page, queue as u32);
         }
         Fate::Drop => print(sink, page, b"drop"),
     }
@@ -72,6 +73,30 @@ fn print_hash<K: Sink>(sink: &mut K, page: &mut Page, hash: Option<u32>)
     }
 }
 
+/// Prints what stands between the fate and the way: in one piece where there is neither mark nor hash.
+#[inline]
+fn print_marks<K: Sink>(sink: &mut K, page: &mut Page, mark: Option<u32>, hash: Option<u32>)
+    ensures { Prints (gather_of K.taken K.faults sink.old page.old)
+        (gather_of K.taken K.faults sink.new page.new) (marks_text mark hash) }
+{
+    let (None, None) = (mark, hash) else {
+        print_known_marks(sink, page, mark, hash);
+        return;
+    };
+    print(sink, page, b" mark - hash - path ");
+}
+
+fn print_known_marks<K: Sink>(sink: &mut K, page: &mut Page, mark: Option<u32>, hash: Option<u32>)
+    ensures { Prints (gather_of K.taken K.faults sink.old page.old)
+        (gather_of K.taken K.faults sink.new page.new) (marks_text mark hash) }
+{
+    print(sink, page, b" mark ");
+    print_mark(sink, page, mark);
+    print(sink, page, b" hash ");
+    print_hash(sink, page, hash);
+    print(sink, page, b" path ");
+}
+
 #[inline]
 fn print_path<K: Sink>(sink: &mut K, page: &mut Page, path: &[u32])
     ensures { Prints (gather_of K.taken K.faults sink.old page.old)
@@ -79,6 +104,10 @@ fn print_path<K: Sink>(sink: &mut K, page: &mut Page, path: &[u32])
 {
     if path.is_empty() {
         print(sink, page, b"-");
+        return;
+    }
+    if path.len() == 1 {
+        print_short(sink, page, path[0]);
         return;
     }
     print_numbers(sink, page, path);
@@ -89,10 +118,6 @@ pub(crate) fn print_verdict<K: Sink>(sink: &mut K, page: &mut Page, verdict: &Ve
         (gather_of K.taken K.faults sink.new page.new) (verdict_text verdict.now) }
 {
     print_fate(sink, page, verdict.fate);
-    print(sink, page, b" mark ");
-    print_mark(sink, page, verdict.mark);
-    print(sink, page, b" hash ");
-    print_hash(sink, page, verdict.hash);
-    print(sink, page, b" path ");
+    print_marks(sink, page, verdict.mark, verdict.hash);
     print_path(sink, page, &verdict.path);
 }

@@ -1,5 +1,4 @@
 mod Entries
-mod Keeping
 mod OwnIds
 mod PathEdits
 mod SharedEntries

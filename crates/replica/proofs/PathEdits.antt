@@ -14,7 +14,7 @@ use Rattle.flow_rules.specs.Best.{best}
 use Rattle.flow_rules.specs.Shared.{Shared, shared_at, or_void, value_in, counter_in, IsSharedOn, AreSharedOn}
 use Rattle.flow_rules.specs.Walk.{Flows, Walked, start, acted, performed, visited, walk, verdict_of}
 use Rattle.flow_rules.specs.Naming.{rule_at, HaveOwnIds}
-use Rattle.flow_rules.proofs.SharedValues.{shared-all}
+use Rattle.flow_rules.proofs.SharedValues.{no-edit, shared-all}
 use Rattle.flow_rules.proofs.Visits.{HoldsOf, HoldsOf-best, visits-keep}
 use Rattle.replica.specs.Path.{edits_by, edits_of, edits_in, edits_at, AreOfPath}
 
@@ -32,19 +32,6 @@ acted-adds rxq counter walked (actions.Mark mark) = (sym (append-nil walked.edit
 acted-adds rxq counter walked actions.Count = (sym (append-nil walked.edits), refl)
 acted-adds rxq counter walked (actions.Indirect id) = (sym (append-nil walked.edits), refl)
 acted-adds rxq counter walked (actions.Set edit) = (refl, refl)
-
-no-edit : (edit : Edit) → is_shareable (kind_of (actions.Set edit)) ≡ true → ⊥
-no-edit (edits.MacSrc n) e = cc
-no-edit (edits.MacDst n) e = cc
-no-edit (edits.Ipv4Src n) e = cc
-no-edit (edits.Ipv4Dst n) e = cc
-no-edit (edits.Ipv6Src n) e = cc
-no-edit (edits.Ipv6Dst n) e = cc
-no-edit (edits.PortSrc n) e = cc
-no-edit (edits.PortDst n) e = cc
-no-edit edits.DecTtl e = cc
-no-edit (edits.SetTtl n) e = cc
-no-edit (edits.SetVid n) e = cc
 
 -- rules can't share an edit
 none-shared : (rxq : ℕ) (value : Action) → IsSharedOn rxq value → edits_by value ≡ []

@@ -3,7 +3,7 @@ ghost use Rattle.std.specs.Prelude.{◌≡◌, [], false, OnOk, OnErr};
 ghost use Rattle.flow_rules.specs.Changes.{changed};
 ghost use Rattle.flow_rules.specs.Naming.{HaveOwnIds};
 ghost use Rattle.flow_rules.specs.Shared.{AreSharedOn};
-ghost use Rattle.replica.specs.Lawful.{IsNew, MayBeInEffect};
+ghost use Rattle.flow_rules.specs.Lawful.{IsNew, MayBeInEffect};
 
 use crate::rule_list::RuleList;
 use crate::shared_actions::SharedActions;

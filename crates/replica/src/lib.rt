@@ -18,10 +18,9 @@
 //! is after changes is to fold them (`specs/Caught`), and the code does just that, one change after the other. So two replicas
 //! that had the same changes answer the same, in however many calls they had them (`changes_come_in_parts`).
 //!
-//! **Lawful changes** (`specs/Lawful`) are those that a port makes: behind each of them all rules and shared values are valid on
-//! the port, and each rule names only shared actions that are in effect, with one fate at most. A rule that takes effect has an
-//! id that none has. So no change is refused here, and only want of memory keeps a replica back: it then stands behind the
-//! changes that were applied, and may go on from there.
+//! Changes come as a port makes them (`flow_rules/specs/Lawful`). So no change is refused here, and only want of memory keeps a
+//! replica back: it then stands behind the changes that were applied, and may go on from there. A rule lies in memory once, and
+//! a replica shares it with whoever made the change.
 //!
 //! **Bytes.** `specs/Rewritten` has the bytes of a frame behind its walk: each edit of the walk is done on the layers and on
 //! the bytes, one behind the other; the layers then are those with which the walk ended
@@ -42,7 +41,6 @@ mod rule_list;
 mod shared_actions;
 
 pub use laws::{
-    bytes_are_edited_as_the_layers_were, changes_come_in_parts, changes_keep_what_may_be_in_effect,
-    edits_are_those_of_the_path,
+    bytes_are_edited_as_the_layers_were, changes_come_in_parts, edits_are_those_of_the_path,
 };
 pub use replica::Replica;

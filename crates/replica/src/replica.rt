@@ -3,7 +3,8 @@ ghost use Rattle.std.specs.Prelude.{◌≡◌, ◌+◌, ◌-◌, ◌≤◌, ◌<
 ghost use Rattle.packet_headers.specs.Layers.{LieWithin};
 ghost use Rattle.flow_rules.specs.Walk.{verdict_of};
 ghost use Rattle.replica.specs.Caught.{Follows, opening, caught_up};
-ghost use Rattle.replica.specs.Lawful.{AreInRange, AreLawful, AreLawfulOn};
+ghost use Rattle.flow_rules.specs.Lawful.{AreLawful, AreLawfulOn};
+ghost use Rattle.flow_rules.specs.Limits.{AreLimits};
 ghost use Rattle.replica.specs.Rewritten.{rewritten};
 
 use crate::current_flows::CurrentFlows;
@@ -39,7 +40,7 @@ impl Model for Replica {
 impl Replica {
     /// A replica at no change: no rules, nothing shared, and frames that no rule takes aren't dropped.
     pub fn new(alloc: Global, limits: Limits) -> Result<Replica, AllocError>
-        requires { AreInRange limits }
+        requires { AreLimits limits }
         ensures { IfOk result (λ replica. replica ≡ record { limits = limits; version = 0; flows = opening limits }) }
     {
         Ok(Replica {

@@ -8,6 +8,7 @@ ghost use Rattle.flow_rules.specs.Naming.{rule_at};
 use flow_rules::Rule;
 use packet_headers::Key;
 use rules_in_effect::RulesInEffect;
+use shared_value::Shared;
 use std::alloc::{AllocError, Global};
 use std::marker::Model;
 
@@ -37,8 +38,8 @@ impl RuleList {
         }
     }
 
-    /// Puts a copy of a rule behind the others, none of which has its id.
-    pub(crate) fn push(&mut self, rule: &Rule) -> Result<(), AllocError>
+    /// Puts a rule behind the others, none of which has its id.
+    pub(crate) fn push(&mut self, rule: &Shared<Rule>) -> Result<(), AllocError>
         requires { rule_at rule.now.id self.old ≡ None }
         ensures ok { OnOk result (self.new ≡ self.old ++ rule.now ∷ []) }
         ensures err { OnErr result (self.new ≡ self.old) }
@@ -68,7 +69,7 @@ impl RuleList {
         ensures { option_map (λ rule. rule.now) result ≡ rule_at id self.now }
     {
         match self.rules.get(id) {
-            Some(entry) => Some(&entry.rule),
+            Some(entry) => Some(entry.rule.get()),
             None => None,
         }
     }

@@ -10,7 +10,7 @@ use Rattle.flow_rules.specs.OnPort.{IsFor}
 use Rattle.flow_rules.specs.RuleView.{RuleView}
 use Rattle.flow_rules.specs.Shared.{IsSharedOn}
 use Rattle.flow_rules.specs.Valid.{IsValidRule, has_fate}
-use Rattle.replica.specs.Lawful.{kinds_in, NamesShared, HasOneFate, MayBeInEffect}
+use Rattle.flow_rules.specs.Lawful.{kinds_in, NamesShared, HasOneFate, MayBeInEffect}
 
 none-unknown : (list : List Action) → list_any (is_unknown (kinds_in [])) list ≡ false → All (λ action. is_unknown (kinds_in []) action ≡ false) list
 none-unknown [] own = All-nil (λ action. is_unknown (kinds_in []) action ≡ false)
@@ -42,3 +42,9 @@ lone rxq isolated rule valid on_port own = record {
   one_fate = All-cons (HasOneFate []) rule [] (subst (λ (test : Action → Bool). count_by test rule.actions ≤ 1) (sym all-fates) valid.one_fate) (All-nil (HasOneFate []));
   few = omega arith;
 }
+
+-- and so may one that is the same
+pub same-lone : (rxq : ℕ) (rule other : RuleView) → other ≡ rule → ((isolated : Bool) → MayBeInEffect rxq (record { rules = rule ∷ []; shared = []; isolated = isolated; rxq = rxq }))
+    → (isolated : Bool) → MayBeInEffect rxq (record { rules = other ∷ []; shared = []; isolated = isolated; rxq = rxq })
+same-lone rxq rule other is may isolated =
+    subst (λ (r : RuleView). MayBeInEffect rxq (record { rules = r ∷ []; shared = []; isolated = isolated; rxq = rxq })) (sym is) (may isolated)

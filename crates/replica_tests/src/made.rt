@@ -2,14 +2,14 @@
 ghost use Rattle.std.specs.Prelude.{◌≡◌, Bool, [], ◌∷◌};
 ghost use Rattle.std.specs.List.{list_any};
 ghost use Rattle.flow_rules.specs.Faults.{is_unknown};
-ghost use Rattle.replica.specs.Lawful.{kinds_in, MayBeInEffect};
+ghost use Rattle.flow_rules.specs.Lawful.{kinds_in, MayBeInEffect};
 
 use arrayvec::ArrayVec;
-use flow_actions::{Action, ActionKind, Actions, MAX_ACTIONS};
-use flow_rules::{Attr, Known, Limits, Rule, RuleSpec, validate};
+use flow_actions::{Action, Actions, MAX_ACTIONS};
+use flow_rules::{Limits, Rule, RuleSpec, validate};
 use packet_headers::{Edit, ItemKind};
-use pattern_items::{Item, Pattern};
 use std::process::Abort;
+use test_rules::{NoneShared, ingress, pattern_of_kinds};
 
 pub const LIMITS: Limits = Limits {
     rxq: 4,
@@ -19,37 +19,6 @@ pub const LIMITS: Limits = Limits {
 /// The id of the rules.
 pub const ID: u32 = 7;
 
-/// No action is shared.
-struct NoneShared;
-
-impl Known for NoneShared {
-    ghost use Rattle.std.specs.Prelude.{None};
-
-    ghost kinds = { λ _ _. None };
-
-    fn kind_of(&self, _id: u32) -> Option<ActionKind> {
-        None
-    }
-}
-
-/// The pattern `ipv4 / udp / end`.
-fn ipv4() -> Pattern {
-    let mut items = ArrayVec::new();
-    items.push(Item {
-        kind: ItemKind::Ipv4,
-        given: None,
-        last: None,
-        mask: None,
-    });
-    items.push(Item {
-        kind: ItemKind::Udp,
-        given: None,
-        last: None,
-        mask: None,
-    });
-    Pattern { items, more: 0 }
-}
-
 /// A rule on frames of UDP over IPv4, which does these edits.
 fn spec(rt: &impl Abort, edits: &[Edit]) -> RuleSpec {
     let mut list = ArrayVec::new();
@@ -58,14 +27,8 @@ fn spec(rt: &impl Abort, edits: &[Edit]) -> RuleSpec {
         list.push(Action::Set(*edit));
     }
     RuleSpec {
-        attr: Attr {
-            group: 0,
-            priority: 0,
-            ingress: true,
-            egress: false,
-            transfer: false,
-        },
-        pattern: ipv4(),
+        attr: ingress(0, 0),
+        pattern: pattern_of_kinds(&[ItemKind::Ipv4, ItemKind::Udp]),
         actions: Actions { list, more: 0 },
     }
 }

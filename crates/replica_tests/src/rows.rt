@@ -1,13 +1,14 @@
 //! Frames as they leave, row by row, and replicas that catch up in parts.
 ghost use Rattle.std.specs.Prelude.{◌≡◌, IfOk, [], ◌∷◌, true};
 ghost use Rattle.flow_rules.specs.declared.change.Change.TheVariants as changes;
-ghost use Rattle.replica.specs.Lawful.{AreLawful};
+ghost use Rattle.flow_rules.specs.Lawful.{AreLawful};
 
 use crate::made::{ID, LIMITS, rule};
 use flow_actions::Fate;
 use flow_rules::Change;
 use packet_headers::{Edit, parse};
 use replica::Replica;
+use shared_value::Shared;
 use std::alloc::{AllocError, Global};
 use std::process::Abort;
 use std::test::Fail;
@@ -63,7 +64,8 @@ fn replica_at_1(rt: &impl Abort, alloc: Global, edits: &[Edit]) -> Result<Replic
     ensures next { IfOk result (λ replica. AreLawful replica.limits replica.flows (changes.Isolated true ∷ [])) }
 {
     let mut replica = Replica::new(alloc, LIMITS)?;
-    replica.catch_up(&[Change::Added(rule(rt, edits))])?;
+    let rule = Shared::new(alloc, rule(rt, edits))?;
+    replica.catch_up(&[Change::Added(rule)])?;
     Ok(replica)
 }
 
@@ -91,7 +93,8 @@ fn is_at_2(rt: &impl Abort, replica: &Replica) {
 #[test]
 fn changes_come_at_once_or_in_parts(rt: HostRuntime) -> Result<(), Fail> {
     let mut at_once = Replica::new(rt.alloc(), LIMITS)?;
-    at_once.catch_up(&[Change::Added(rule(&rt, &[])), Change::Isolated(true)])?;
+    let rule = Shared::new(rt.alloc(), rule(&rt, &[]))?;
+    at_once.catch_up(&[Change::Added(rule), Change::Isolated(true)])?;
     is_at_2(&rt, &at_once);
     let mut in_parts = replica_at_1(&rt, rt.alloc(), &[])?;
     in_parts.catch_up(&[Change::Isolated(true)])?;

@@ -1,8 +1,9 @@
 -- Ids that are read have so many bits at most.
-use Rattle.std.proofs.Common.{◌≡◌, ℕ, ◌<◌, ◌^◌, cond, true, false, nat_lt, nat_le, List, [], ◌∷◌, length, get_or, zero, suc, Option, None, Some, refl, arith, subst, sym, ap, ◌∙◌}
+use Rattle.std.proofs.Common.{◌≡◌, ℕ, ◌<◌, ◌≤◌, ◌^◌, Bool, cond, true, false, nat_lt, nat_le, List, [], ◌∷◌, length, get_or, zero, suc, Option, None, Some, refl, arith, subst, sym, ap, ◌∙◌}
 use Rattle.std.specs.Prelude.{◌&&◌}
 use Rattle.std.specs.Option.{option_and_then}
 use Rattle.std.specs.Str.{bytes_eq}
+use Rattle.std.proofs.lemmas.Bool.{leb-true}
 use Rattle.std.proofs.lemmas.Bool.Decides.{nat_tests}
 use Rattle.rule_words.specs.Number.{number_of, number_of_bits, below}
 use Rattle.rule_words.specs.Ids.{ids_in_front, ids_of, AreBelow}
@@ -55,6 +56,17 @@ ids-below name bits most words ids rest is =
           in-front-below name bits words ids rest (read.1 ∙ ap (λ p. Some p) same)
       | false ↦ λ e. absurd (not-read (ids, rest) e)
     ] read.2
+
+-- and there are so many of them at most
+pub ids-most : (name : List ℕ) (bits most : ℕ) (words : List (List ℕ)) (ids : List ℕ) (rest : List (List ℕ)) → Some (ids, rest) ≡ ids_of name bits most words → length ids ≤ most
+ids-most name bits most words ids rest is =
+    let tested : List ℕ × List (List ℕ) → Option (List ℕ × List (List ℕ)) = λ read. cond (nat_le 1 (length read.0) && nat_le (length read.0) most) (Some read) None in
+    let read = on_some (ids_in_front name bits words) tested (ids, rest) (sym is) in
+    by read.0 (nat_le 1 (length read.0.0)) (nat_le (length read.0.0) most) refl read.2 where
+      by : (p : List ℕ × List (List ℕ)) (some few : Bool) → nat_le (length p.0) most ≡ few → cond (some && few) (Some p) None ≡ Some (ids, rest) → length ids ≤ most
+      by p true true few e = subst (λ (l : List ℕ). length l ≤ most) (same-ids p (ids, rest) e) (leb-true (length p.0) most few)
+      by p true false few e = absurd (not-read (ids, rest) e)
+      by p false few f e = absurd (not-read (ids, rest) e)
 
 -- the id at a place
 pub below-at : (limit : ℕ) (ids : List ℕ) (i d : ℕ) → AreBelow limit ids → i < length ids → get_or ids i d < limit

@@ -5,6 +5,7 @@ pub mod FieldWords
 pub mod Flags
 pub mod Ids
 pub mod Items
+pub mod Masks
 pub mod Number
 pub mod Relations
 pub mod RssLists

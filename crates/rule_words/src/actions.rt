@@ -39,7 +39,7 @@ static WORDS: [(&str, ActionKind); 19] = [
 ];
 
 /// The kind of action that a word begins.
-fn begun_by(word: &[u8]) -> Option<ActionKind>
+pub(crate) fn begun_by(word: &[u8]) -> Option<ActionKind>
     ensures { result ≡ meaning_of spec.words word.now }
 {
     meaning(&WORDS, word)
@@ -156,7 +156,7 @@ impl TurnReader for Actions {
 
 /// The action of a kind before anything inside it is read, and how many words it has behind its own: one that rules
 /// share has its id there.
-fn begin(kind: ActionKind, words: &[&[u8]]) -> Option<(Action, usize)>
+pub(crate) fn begin(kind: ActionKind, words: &[&[u8]]) -> Option<(Action, usize)>
     ensures value { option_map (λ begun. (begun.0, drop begun.1 (map (λ word. word.now) words.now))) result
         ≡ spec.begun kind (map (λ word. word.now) words.now) }
     ensures few { IfSome result (λ begun. begun.1 ≤ length words.now) }

@@ -58,7 +58,7 @@ pub fn read_ids<'w, 'a>(
     words: &'w [&'a [u8]],
 ) -> Option<(IdList, &'w [&'a [u8]])>
     requires narrow { bits ≤ 32 }
-    requires few { most ≤ MAX_IDS }
+    requires few { most ≤ 64 }
     ensures value { option_map (λ read. (read.0.items, map (λ word. word.now) read.1.now)) result
         ≡ ids_of name.now bits most (map (λ word. word.now) words.entry.now) }
     ensures small { IfSome result (λ read. AreBelow (2 ^ bits) read.0.items) }

@@ -9,7 +9,7 @@
 //! Each reader takes one of these lists from the front of some words and gives what it says, with the words behind it:
 //! [`read_attributes`] up to a word that the caller names, and [`read_directions`] where no group and no priority may stand,
 //! [`read_items`] and [`read_actions`] up to their `end`, [`read_action`] one action up to its `/`, and [`read_ids`] ids that
-//! stand behind one word each. Where the words don't fit, or a value is wider than its field, there
+//! stand behind one word each; [`read_masks`] reads the mask list of an actions template up to its `end`. Where the words don't fit, or a value is wider than its field, there
 //! is none. [`first_number`] reads one number, [`flag_and_rest`] one word that switches something on or off, and
 //! [`meaning`] looks a word up in a table.
 //!
@@ -23,7 +23,7 @@
 //! cases on words: what the first of them say, and what is left. `specs/Turns` says how turns make a list, and it is the
 //! same for attributes, items, the fields of an item, actions and the values of an action; a list inside a list, up to an
 //! `end` of its own, is a turn that reads up to that, as the lists of RSS are. So a word more is a row of a table and a
-//! case that says what its value does. `specs/Attributes`, `Items`, `Actions`, `RssLists` and `Ids` have the turns,
+//! case that says what its value does. `specs/Attributes`, `Items`, `Actions`, `RssLists`, `Masks` and `Ids` have the turns,
 //! `specs/FieldWords`, `Relations`, `Value`, `Number` and `Address` what stands in one, and `specs/Vocabulary` the look-up.
 //!
 //! `specs/Written` has the grammar in its own order, and the four laws of `written.rt` say that what is written by it is
@@ -40,6 +40,7 @@ mod field_words;
 mod flags;
 mod ids;
 mod items;
+mod masks;
 mod number;
 mod relations;
 mod rss_lists;
@@ -53,6 +54,7 @@ pub use attributes::{read_attributes, read_directions};
 pub use flags::flag_and_rest;
 pub use ids::{IdList, MAX_IDS, read_ids};
 pub use items::read_items;
+pub use masks::read_masks;
 pub use number::{first_number, number_of_bits};
 pub use vocabulary::meaning;
 pub use written::{

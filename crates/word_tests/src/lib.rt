@@ -23,3 +23,5 @@ mod scripts;
 mod shared_actions;
 #[cfg(test)]
 mod shown;
+#[cfg(test)]
+mod templates;

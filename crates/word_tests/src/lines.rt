@@ -318,7 +318,7 @@ type Long = (
     &'static str,
 );
 
-static LONG_LINES: [Long; 7] = [
+static LONG_LINES: [Long; 10] = [
     (
         "a line lists 64 ids",
         b"flow destroy 0",
@@ -358,6 +358,30 @@ static LONG_LINES: [Long; 7] = [
         65_600,
         b"end actions queue index 0 / end",
         "create 0, void, void, void, void, void, void, void, void, void, void, void, void, void, void, void, void, 65535 more",
+    ),
+    (
+        "a line does not list 65 tables",
+        b"flow template_table 0 destroy",
+        b" table 9",
+        65,
+        b"",
+        "bad",
+    ),
+    (
+        "a mask list has 16 actions, and void is not one of them",
+        b"flow actions_template 0 create ingress template end mask ",
+        b"void / mark id 1 / ",
+        16,
+        b"end",
+        "actions create, mask Mark= Mark= Mark= Mark= Mark= Mark= Mark= Mark= Mark= Mark= Mark= Mark= Mark= Mark= Mark= Mark=",
+    ),
+    (
+        "the actions of a mask list behind the 16th are counted",
+        b"flow actions_template 0 create ingress template end mask ",
+        b"drop / ",
+        18,
+        b"end",
+        "actions create, mask Drop Drop Drop Drop Drop Drop Drop Drop Drop Drop Drop Drop Drop Drop Drop Drop 2 more",
     ),
     (
         "one word may be as long as a script",

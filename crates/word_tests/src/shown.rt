@@ -1,10 +1,11 @@
 //! What lines and calls say, as short texts for the tests.
-use adapter::{BadKind, Op};
+use adapter::{ActionLists, BadKind, Op, TableTemplates};
 use flow_actions::{Action, Actions, Rss};
 use flow_grammar::{Line, read_line};
 use flow_rules::{Attr, RuleSpec};
 use packet_headers::ItemKind;
-use pattern_items::{Fields, Item};
+use pattern_items::{Fields, Item, Pattern};
+use rule_binding::Masks;
 use std::alloc::{AllocError, Global};
 use std::fmt::Write;
 use std::process::Abort;
@@ -115,19 +116,24 @@ fn show_attr(out: &mut String, attr: &Attr) -> Result<(), AllocError> {
     Ok(())
 }
 
-/// The actions, the attributes, the items, and how many of these stood behind the first 16.
-fn show_rule(out: &mut String, verb: &str, rule: &RuleSpec) -> Result<(), AllocError> {
-    out.push_str(verb)?;
-    show_actions(out, &rule.actions)?;
-    show_attr(out, &rule.attr)?;
-    for item in rule.pattern.items.as_slice() {
+/// The items, and how many stood behind the first 16.
+fn show_items(out: &mut String, pattern: &Pattern) -> Result<(), AllocError> {
+    for item in pattern.items.as_slice() {
         show_item(out, item)?;
     }
-    let more = rule.pattern.more;
+    let more = pattern.more;
     if more != 0 {
         write!(out, ", {more} more")?;
     }
     Ok(())
+}
+
+/// The actions, the attributes, and the items.
+fn show_rule(out: &mut String, verb: &str, rule: &RuleSpec) -> Result<(), AllocError> {
+    out.push_str(verb)?;
+    show_actions(out, &rule.actions)?;
+    show_attr(out, &rule.attr)?;
+    show_items(out, &rule.pattern)
 }
 
 fn bad_text(kind: BadKind) -> &'static str {
@@ -154,6 +160,93 @@ fn show_indirect(
     out.push_str(" create")?;
     show_action(out, action)?;
     show_attr(out, attr)
+}
+
+/// The creation of a template or a table, with its id where it has one.
+fn show_made(out: &mut String, name: &str, id: &Option<u16>) -> Result<(), AllocError> {
+    out.push_str(name)?;
+    if let Some(id) = id {
+        let id = *id;
+        write!(out, " {id}")?;
+    }
+    out.push_str(" create")
+}
+
+/// Whether the action at a place of a mask list is set.
+fn is_set_at(masks: &Masks, place: usize) -> bool {
+    match masks.set.get(place) {
+        Some(set) => *set,
+        None => false,
+    }
+}
+
+/// The kinds of a mask list, those that are set with `=`, and how many stood behind the first 16.
+fn show_lists(out: &mut String, lists: &ActionLists) -> Result<(), AllocError> {
+    show_actions(out, &lists.actions)?;
+    out.push_str(", mask")?;
+    for (place, kind) in lists.masks.kinds.as_slice().iter().enumerate() {
+        write!(out, " {kind:?}")?;
+        if is_set_at(&lists.masks, place) {
+            out.push_str("=")?;
+        }
+    }
+    let more = lists.masks.more;
+    if more != 0 {
+        write!(out, " {more} more")?;
+    }
+    Ok(())
+}
+
+/// The ids of a table's templates.
+fn show_table(
+    out: &mut String,
+    rules_number: u32,
+    templates: &TableTemplates,
+) -> Result<(), AllocError> {
+    write!(out, " for {rules_number} of")?;
+    for id in templates.patterns.as_slice() {
+        write!(out, " {id}")?;
+    }
+    out.push_str(" with")?;
+    for id in templates.actions.as_slice() {
+        write!(out, " {id}")?;
+    }
+    Ok(())
+}
+
+/// The end of a thing of this name and id.
+fn show_end(out: &mut String, name: &str, id: u16) -> Result<(), AllocError> {
+    write!(out, "{name} {id} destroy;")
+}
+
+/// The calls on templates and tables.
+fn show_template_op(out: &mut String, op: &Op) -> Result<(), AllocError> {
+    match op {
+        Op::PatternTemplateCreate { id, attr, pattern } => {
+            show_made(out, "pattern", id)?;
+            show_attr(out, attr)?;
+            show_items(out, pattern.get())
+        }
+        Op::PatternTemplateDestroy(id) => show_end(out, "pattern", *id),
+        Op::ActionsTemplateCreate { id, attr, lists } => {
+            show_made(out, "actions", id)?;
+            show_attr(out, attr)?;
+            show_lists(out, lists.get())
+        }
+        Op::ActionsTemplateDestroy(id) => show_end(out, "actions", *id),
+        Op::TableCreate {
+            id,
+            attr,
+            rules_number,
+            templates,
+        } => {
+            show_made(out, "table", id)?;
+            show_attr(out, attr)?;
+            show_table(out, *rules_number, templates.get())
+        }
+        Op::TableDestroy(id) => show_end(out, "table", *id),
+        _ => Ok(()),
+    }
 }
 
 pub(crate) fn show_op(out: &mut String, op: &Op) -> Result<(), AllocError> {
@@ -186,6 +279,12 @@ pub(crate) fn show_op(out: &mut String, op: &Op) -> Result<(), AllocError> {
             let id = *id;
             write!(out, "indirect {id} query")
         }
+        Op::PatternTemplateCreate { .. }
+        | Op::PatternTemplateDestroy(_)
+        | Op::ActionsTemplateCreate { .. }
+        | Op::ActionsTemplateDestroy(_)
+        | Op::TableCreate { .. }
+        | Op::TableDestroy(_) => show_template_op(out, op),
         Op::Start(None) => out.push_str("start"),
         Op::Start(Some(count)) => {
             let count = *count;

@@ -27,7 +27,7 @@ returns-then-place-list-clause-named c =
     let found = rule_at-entry c.args.id c.args.rules.now.list ∙ ap (option_map rule_in) (sym c.get.ensures ∙ ap option_copied c.in-Some.is) in
     let rule = c.in-Some.entry.now.rule in
     let shared = values_in_effect c.args.shared.now.entries in
-    let whole = c.as_slice-list.ensures.value ∙ c.actions.ensures.list in
+    let whole = c.as_slice-list.ensures.value ∙ c.actions.ensures.list ∙ ap (λ (r : RuleView). r.actions) c.get-rule.ensures in
     let past : get_or rule.actions c.args.place actions.Void ≡ actions.Void
     = ap (λ (xs : List Action). get_or xs c.args.place actions.Void) (sym whole) ∙ get_or_past c.as_slice-list.result.now c.args.place actions.Void (omega (arith, c.if-place-list.true)) in
     sym (ap (λ (o : Option RuleView). naming_at shared o c.args.place) found ∙ ap (λ (a : Action). named_by (counter_in rule.id a) (value_in shared a)) past)
@@ -37,11 +37,11 @@ returns-clause-named c =
     let found = rule_at-entry c.args.id c.args.rules.now.list ∙ ap (option_map rule_in) (sym c.get.ensures ∙ ap option_copied c.in-Some.is) in
     let rule = c.in-Some.entry.now.rule in
     let shared = values_in_effect c.args.shared.now.entries in
-    let whole = c.as_slice-list.ensures.value ∙ c.actions.ensures.list in
+    let whole = c.as_slice-list.ensures.value ∙ c.actions.ensures.list ∙ ap (λ (r : RuleView). r.actions) c.get-rule.ensures in
     let here : c.index-list-place.result ≡ get_or rule.actions c.args.place actions.Void
     = c.index-list-place.is ∙ get_or_default c.as_slice-list.result.now c.args.place _ actions.Void (omega (arith, c.if-place-list.false)) ∙ ap (λ (xs : List Action). get_or xs c.args.place actions.Void) whole in
     c.named_by.ensures.named
-    ∙ ap (λ n. named_by (counter_in n c.index-list-place.result) (value_in shared c.index-list-place.result)) c.id.ensures
+    ∙ ap (λ n. named_by (counter_in n c.index-list-place.result) (value_in shared c.index-list-place.result)) (c.id.ensures ∙ ap (λ (r : RuleView). r.id) c.get-rule.ensures)
     ∙ ap (λ (a : Action). named_by (counter_in rule.id a) (value_in shared a)) here
     ∙ sym (ap (λ (o : Option RuleView). naming_at shared o c.args.place) found)
 
@@ -64,5 +64,5 @@ kept rules shared id rule same there (Some (counters.Shared other)) named = name
 pub returns-clause-there : goal.returns-clause-there
 returns-clause-there c =
     let found : entry_at c.args.id c.args.rules.now.list ≡ Some c.in-Some.entry.now = sym c.get.ensures ∙ ap option_copied c.in-Some.is in
-    kept c.args.rules.now.list c.args.shared.now.entries c.args.id c.id.result (c.id.ensures ∙ id-found c.args.id c.args.rules.now.list c.in-Some.entry.now found)
+    kept c.args.rules.now.list c.args.shared.now.entries c.args.id c.id.result (c.id.ensures ∙ ap (λ (r : RuleView). r.id) c.get-rule.ensures ∙ id-found c.args.id c.args.rules.now.list c.in-Some.entry.now found)
     (ap (λ (o : Option InEffect). is_some o) found) c.named_by.result c.named_by.ensures.there

@@ -1,6 +1,6 @@
 use Rattle.std.proofs.Common.{◌≡◌, ◌+◌, take, drop, fold}
 use Rattle.flow_rules.specs.Changes.{changed}
-use Rattle.replica.specs.Lawful.{AreLawfulOn}
+use Rattle.flow_rules.specs.Lawful.{AreLawfulOn}
 use Rattle.replica.proofs.replica.follow.Given as goal
 
 -- so many changes were applied, and those that are left are lawful

@@ -4,7 +4,7 @@ use Rattle.flow_rules.specs.Faults.{is_unknown}
 use Rattle.flow_rules.specs.RuleView.{RuleView}
 use Rattle.flow_rules.specs.Valid.{IsValid, IsOnPort}
 use Rattle.flow_rules.proofs.Validity.{on_port-clear}
-use Rattle.replica.specs.Lawful.{kinds_in}
+use Rattle.flow_rules.specs.Lawful.{kinds_in}
 use Rattle.replica_tests.proofs.Lone.{lone}
 use Rattle.replica_tests.proofs.made.rule.Goals as goal
 

@@ -2,11 +2,14 @@ use Rattle.std.proofs.Common.{refl, sym, subst, List}
 use Rattle.adapter.specs.declared.entry.Entry.{Entry}
 use Rattle.adapter.specs.KeptState.{state_in, count_in}
 use Rattle.adapter.specs.Standing.{Standing}
-use Rattle.adapter.specs.Sound.{Sound}
+use Rattle.adapter.specs.Sound.{Sound, AreTold}
+use Rattle.adapter.proofs.ChangesTold.{AreTold-nil}
 use Rattle.adapter.proofs.SoundGrowth.{Sound-nil, no_totals}
 use Rattle.adapter.proofs.adapter.Adapter.new.Goals as goal
 
 pub invariant_of-result : goal.invariant_of-result
 invariant_of-result c =
-    let at : Standing = record { state = state_in c.new.result; totals = no_totals; count = count_in c.new.result } in
-    subst (λ (h : List Entry). Sound c.args.limits at h) (sym c.new-2.ensures) (Sound-nil c.args.limits at c.new.ensures.state refl c.new.ensures.counts c.requires)
+    let at : Standing = record { state = state_in c.new.result; totals = no_totals; count = count_in c.new.result } in (
+      subst (λ (h : List Entry). Sound c.args.limits at h) (sym c.new-2.ensures) (Sound-nil c.args.limits at c.new.ensures.state refl c.new.ensures.counts c.requires),
+      subst (λ (h : List Entry). AreTold c.args.limits h c.new-3.result.list) (sym c.new-2.ensures) (AreTold-nil c.args.limits c.new-3.result.list c.new-3.ensures),
+    )

@@ -1,4 +1,6 @@
 use Rattle.std.proofs.Common.{rules, ◌≡◌, ◌<◌, ◌^◌, ◌++◌, ◌∷◌, [], length, sym, ap, ◌∙◌, subst, refl, arith, List}
+use Rattle.std.specs.Option.{option_to_list}
+use Rattle.flow_rules.specs.declared.change.Change.{Change}
 use Rattle.flow_rules.specs.declared.limits.Limits.{Limits}
 use Rattle.flow_rules.specs.declared.counter.Counter.{Counter}
 use Rattle.adapter.specs.declared.call.Op.{Op}
@@ -6,14 +8,17 @@ use Rattle.adapter.specs.declared.reply.Reply.{Reply}
 use Rattle.adapter.specs.declared.entry.Entry.{Entry}
 use Rattle.adapter.specs.declared.entry.Entry.TheVariants.{Asked}
 use Rattle.adapter.specs.Seen.{Seen}
+use Rattle.adapter.specs.Kept.{entry_kept}
 use Rattle.adapter.specs.State.{State, flows_of, next_state}
 use Rattle.adapter.specs.Counters.{is_there, while_there}
 use Rattle.adapter.specs.KeptState.{KeptState, state_in, count_in}
 use Rattle.adapter.specs.Standing.{Standing, standing_kept}
+use Rattle.adapter.specs.Changes.{changes_by}
 use Rattle.adapter.specs.Effect.{done}
 use Rattle.adapter.specs.Reply.{answer_of, reply_to}
-use Rattle.adapter.specs.Sound.{Sound}
+use Rattle.adapter.specs.Sound.{Sound, AreTold}
 use Rattle.adapter.proofs.StateKept.{IsUnder, IsUnder-next, IsFresh-under}
+use Rattle.adapter.proofs.ChangesTold.{AreTold-push}
 use Rattle.adapter.proofs.SoundGrowth.{Sound-asked, IsUnder-sound, reply-sound, answer-counts}
 use Rattle.adapter.proofs.adapter.Adapter.step.Goals as goal
 
@@ -23,12 +28,12 @@ port limits at h s sound same = sym (IsUnder-sound limits at h sound).port ∙ a
 
 pub judge-requires : goal.judge-requires
 judge-requires c = record {
-  port = port c.self.inside.limits (standing_kept c.self.inside.standing) c.self.inside.history (state_in c.reserve.new.self) c.self.invariant c.reserve.ensures.state;
+  port = port c.self.inside.limits (standing_kept c.self.inside.standing) c.self.inside.history.entries (state_in c.reserve.new.self) c.self.invariant.0 c.reserve.ensures.state;
 }
 
 pub carry_out-requires-clause-port : goal.carry_out-requires-clause-port
 carry_out-requires-clause-port c =
-    port c.self.inside.limits (standing_kept c.self.inside.standing) c.self.inside.history (state_in c.reserve.new.self) c.self.invariant c.reserve.ensures.state
+    port c.self.inside.limits (standing_kept c.self.inside.standing) c.self.inside.history.entries (state_in c.reserve.new.self) c.self.invariant.0 c.reserve.ensures.state
 
 pub carry_out-requires-clause-numbers : goal.carry_out-requires-clause-numbers
 carry_out-requires-clause-numbers c =
@@ -37,14 +42,14 @@ carry_out-requires-clause-numbers c =
     let at = standing_kept inside.standing in
     let does : done (state_in c.reserve.new.self) c.in_ok-reply.field-0.effect ≡ next_state inside.limits at.state op
     = c.in_ok-reply.ensures.effect ∙ ap (λ s. next_state inside.limits s op) c.reserve.ensures.state in
-    subst (λ (s : State). s.ids < 2 ^ 32) (sym does) (IsUnder-next inside.limits at.state op (IsUnder-sound inside.limits at inside.history c.self.invariant)).numbers
+    subst (λ (s : State). s.ids < 2 ^ 32) (sym does) (IsUnder-next inside.limits at.state op (IsUnder-sound inside.limits at inside.history.entries c.self.invariant.0)).numbers
 
 pub carry_out-requires-clause-due : goal.carry_out-requires-clause-due
 carry_out-requires-clause-due c =
     let inside = c.self.inside in
     let at = standing_kept inside.standing in
     c.in_ok-reply.ensures.due (IsFresh-under inside.limits (state_in c.reserve.new.self)
-    (subst (λ (s : State). IsUnder inside.limits s) (sym c.reserve.ensures.state) (IsUnder-sound inside.limits at inside.history c.self.invariant)))
+    (subst (λ (s : State). IsUnder inside.limits s) (sym c.reserve.ensures.state) (IsUnder-sound inside.limits at inside.history.entries c.self.invariant.0)))
 
 -- the reply that was given is that of the standing
 replied : (limits : Limits) (at : Standing) (k : KeptState) (op : Op) → state_in k ≡ at.state → ((n : Counter) → count_in k n ≡ at.count n)
@@ -57,16 +62,24 @@ invariant_of-self-2 c =
     let inside = c.self.inside in
     let op = c.args.call.now.op in
     let at = standing_kept inside.standing in
-    let more : length inside.history < 2 ^ 32 = omega arith in
+    let more : length inside.history.entries < 2 ^ 32 = omega arith in
     let kept : c.in_ok-kept.kept ≡ c.in_ok-reply.field-0.reply = search rules in
     let given : c.in_ok-kept.kept ≡ answer_of inside.limits at op
     = kept ∙ c.in_ok-reply.ensures.reply ∙ replied inside.limits at c.reserve.new.self op c.reserve.ensures.state c.reserve.ensures.counts in
     let at' : Standing = record { state = state_in c.carry_out.new.self; totals = at.totals; count = count_in c.carry_out.new.self } in
-    subst (λ (h : List Entry). Sound inside.limits at' h)
-    (ap (λ (r : Reply). inside.history ++ Asked c.args.caller c.args.call.now r ∷ []) (sym given) ∙ sym c.in_ok-add_call.ensures.ok)
-    (Sound-asked inside.limits at at' inside.history c.args.caller c.args.call.now c.self.invariant more
-    (c.carry_out.ensures.state ∙ c.in_ok-reply.ensures.effect ∙ ap (λ s. next_state inside.limits s op) c.reserve.ensures.state) refl
-    (λ n. c.carry_out.ensures.counts n ∙ ap (while_there (is_there n (flows_of (state_in c.carry_out.new.self)))) (c.reserve.ensures.counts n)))
+    let entry : c.add-2.new.self.entries ≡ inside.history.entries ++ Asked c.args.caller c.args.call.now (answer_of inside.limits at op) ∷ []
+    = c.add-2.ensures ∙ ap (λ (l : List Entry). l ++ entry_kept c.in_ok-entry.entry ∷ []) c.reserve-3.ensures.same
+    ∙ ap (λ (x : Entry). inside.history.entries ++ x ∷ []) (c.in_ok-entry.ensures ∙ ap (λ (r : Reply). Asked c.args.caller c.args.call.now r) given) in (
+      subst (λ (h : List Entry). Sound inside.limits at' h) (sym entry)
+          (Sound-asked inside.limits at at' inside.history.entries c.args.caller c.args.call.now c.self.invariant.0 more
+          (c.in_ok-carry_out.ensures.state ∙ c.in_ok-reply.ensures.effect ∙ ap (λ s. next_state inside.limits s op) c.reserve.ensures.state) refl
+          (λ n. c.in_ok-carry_out.ensures.counts n ∙ ap (while_there (is_there n (flows_of (state_in c.carry_out.new.self)))) (c.reserve.ensures.counts n))),
+      subst (λ (h : List Entry). AreTold inside.limits h c.add.new.self.list) (sym entry)
+          (AreTold-push inside.limits inside.history.entries (Asked c.args.caller c.args.call.now (answer_of inside.limits at op)) inside.changes.list c.add.new.self.list c.in_ok-reply.field-0.change c.self.invariant.1
+          (c.add.ensures ∙ ap (λ (list : List Change). list ++ option_to_list c.in_ok-reply.field-0.change) c.reserve-2.ensures.same)
+          (c.in_ok-reply.ensures.change ∙ ap (λ s. changes_by inside.limits s op) (c.reserve.ensures.state ∙ c.self.invariant.0.state))
+          c.in_ok-reply.ensures.few),
+    )
 
 pub returns-clause-reply : goal.returns-clause-reply
 returns-clause-reply c =
@@ -74,4 +87,4 @@ returns-clause-reply c =
     let op = c.args.call.now.op in
     let at = standing_kept inside.standing in
     c.in_ok-reply.ensures.reply ∙ replied inside.limits at c.reserve.new.self op c.reserve.ensures.state c.reserve.ensures.counts
-    ∙ reply-sound inside.limits at inside.history op c.self.invariant ∙ ap (λ (s : Seen). reply_to s.limits s.history op) c.self.view_is
+    ∙ reply-sound inside.limits at inside.history.entries op c.self.invariant.0 ∙ ap (λ (s : Seen). reply_to s.limits s.history op) c.self.view_is

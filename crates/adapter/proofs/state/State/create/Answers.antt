@@ -5,9 +5,10 @@ use Rattle.rules_in_effect.specs.declared.in_effect.InEffect.{InEffect}
 use Rattle.rules_in_effect.specs.Entries as rules
 use Rattle.indirect_counters.specs.Entries.{entry_at}
 use Rattle.adapter.specs.State.{rule_in}
-use Rattle.adapter.specs.KeptState.{KeptState, state_in}
-use Rattle.adapter.specs.StateInside.{state_kept}
+use Rattle.adapter.specs.KeptState.{KeptState, state_in, placed}
+use Rattle.adapter.specs.StateInside.{state_kept, AreOutside}
 use Rattle.adapter.proofs.RulesKept.{rule_at-placed}
+use Rattle.adapter.proofs.TemplatesKept.{AreOutside-pushed, HaveSlots-outside}
 use Rattle.adapter.proofs.Carried.{carried, CarriesRule, pushed_rule, same_shared}
 use Rattle.adapter.proofs.state.State.create.Goals as goal
 
@@ -29,3 +30,15 @@ returns-clause-counts c =
     (λ q. subst (λ (list : List InEffect). CarriesRule (rules.entry_at q s.rules.list) (rules.entry_at q list)) (sym c.push.ensures)
     (pushed_rule q s.rules.list (record { rule = c.args.rule; table = None; count = record { hits = 0; bytes = 0 } }) refl))
     (λ q. same_shared (entry_at q s.shared.entries))
+
+pub invariant_of-self : goal.invariant_of-self
+invariant_of-self c =
+    let s = c.self.inside in
+    let outside : AreOutside (map placed c.push.new.self.list) = subst (λ (list : List InEffect). AreOutside (map placed list)) (sym c.push.ensures)
+    (AreOutside-pushed s.rules.list (record { rule = c.args.rule; table = None; count = record { hits = 0; bytes = 0 } }) refl c.self.invariant.outside) in
+    record {
+      in_effect = c.self.invariant.in_effect;
+      on_port = c.self.invariant.on_port;
+      outside = outside;
+      slots = HaveSlots-outside (map placed s.rules.list) (map placed c.push.new.self.list) s.templates.tables c.self.invariant.outside outside c.self.invariant.slots;
+    }

@@ -31,5 +31,5 @@ pub returns : goal.returns
 returns c =
     let entry = c.in-Some.entry.now in
     c.counted.ensures
-    ∙ ap (λ b. reply_of_count b entry.count) (c.has_count.ensures ∙ ap (list_any is_count) (c.as_slice.ensures.value ∙ c.actions.ensures.list))
+    ∙ ap (λ b. reply_of_count b entry.count) (c.has_count.ensures ∙ ap (list_any is_count) (c.as_slice.ensures.value ∙ c.actions.ensures.list ∙ ap (λ (r : RuleView). r.actions) c.get-2.ensures))
     ∙ sym (asked (state_kept c.self.inside) _ c.self.view_is c.args.id (Some entry) (sym c.get.ensures ∙ ap option_copied c.in-Some.is))

@@ -6,8 +6,8 @@ use Rattle.rules_in_effect.specs.Entries as rules
 use Rattle.indirect_counters.specs.Entries.{values_in_effect}
 use Rattle.adapter.specs.State.{Placed, flows_of, rule_in}
 use Rattle.adapter.specs.Counters.{counted_more, is_counter}
-use Rattle.adapter.specs.KeptState.{KeptState, state_in, count_in, placed}
-use Rattle.adapter.specs.StateInside.{state_kept}
+use Rattle.adapter.specs.KeptState.{KeptState, state_in, count_in, placed, plans_of}
+use Rattle.adapter.specs.StateInside.{state_kept, AreOutside, HaveSlots}
 use Rattle.adapter.specs.Raising.{HasRoomFor}
 use Rattle.adapter.proofs.RulesKept.{rules-placed}
 use Rattle.adapter.proofs.state.State.raise.Goals as goal
@@ -26,13 +26,15 @@ pub invariant_of-self : goal.invariant_of-self
 invariant_of-self c = record {
   in_effect = c.raise_all.ensures.raises.in_effect c.self.invariant.in_effect;
   on_port = c.raise_all.ensures.raises.on_port c.self.inside.rxq c.self.invariant.on_port;
+  outside = subst AreOutside (sym c.raise_all.ensures.raises.rules_same) c.self.invariant.outside;
+  slots = subst (λ (ps : List Placed). HaveSlots ps c.self.inside.templates.tables) (sym c.raise_all.ensures.raises.rules_same) c.self.invariant.slots;
 }
 
 pub returns-clause-state : goal.returns-clause-state
 returns-clause-state c =
     let s = c.self.inside in
-    ap (λ (ps : List Placed). record { rules = ps; shared = values_in_effect c.raise_all.new.shared.entries; isolated = s.isolated; ids = s.ids; rxq = s.rxq }) c.raise_all.ensures.raises.rules_same
-    ∙ ap (λ vs. record { rules = map placed s.rules.list; shared = vs; isolated = s.isolated; ids = s.ids; rxq = s.rxq }) c.raise_all.ensures.raises.values_same
+    ap (λ (ps : List Placed). record { rules = ps; shared = values_in_effect c.raise_all.new.shared.entries; templates = plans_of s.templates; isolated = s.isolated; ids = s.ids; rxq = s.rxq }) c.raise_all.ensures.raises.rules_same
+    ∙ ap (λ vs. record { rules = map placed s.rules.list; shared = vs; templates = plans_of s.templates; isolated = s.isolated; ids = s.ids; rxq = s.rxq }) c.raise_all.ensures.raises.values_same
     ∙ ap state_in c.self.view_is
 
 pub returns-clause-counts : goal.returns-clause-counts

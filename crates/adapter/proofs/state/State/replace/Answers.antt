@@ -1,6 +1,4 @@
 use Rattle.std.proofs.Common.{◌≡◌, ℕ, sym, subst, ap, ◌∙◌, map, None, count_by, false}
-use Rattle.std.specs.Prelude.{Result, Ok, Err, OnOk}
-use Rattle.std.specs.Result.{result_err}
 use Rattle.flow_actions.specs.declared.action.Action.{Action}
 use Rattle.flow_rules.specs.Shared.{Shared, IsSharedOn}
 use Rattle.rules_in_effect.specs.Entries as rules
@@ -13,9 +11,10 @@ use Rattle.indirect_counters.proofs.Creating.{update-clear, IsSharedOn-updated}
 use Rattle.indirect_counters.proofs.Effects.{seen-updated}
 use Rattle.indirect_counters.proofs.Lawful.{AreOn-updated, All-changed_at}
 use Rattle.adapter.specs.State.{State, is_user, objects, shared_set}
-use Rattle.adapter.specs.KeptState.{KeptState, state_in, placed}
+use Rattle.adapter.specs.KeptState.{KeptState, state_in, placed, plans_of}
 use Rattle.adapter.specs.StateInside.{state_kept, AreInEffect}
 use Rattle.adapter.proofs.Objects.{update-objects}
+use Rattle.adapter.proofs.TemplatesKept.{at-ok}
 use Rattle.adapter.proofs.Carried.{carried, CarriesShared, same_rule, updated_shared}
 use Rattle.adapter.proofs.state.State.replace.Goals as goal
 
@@ -30,11 +29,6 @@ due kept old same all rxq id action port none =
 all-updated : (id : ℕ) (action : Action) (entries : Entries) → AreInEffect entries → AreInEffect (updated id action entries)
 all-updated id action entries all = All-changed_at (λ (entry : ℕ × SharedAction). entry.1.held ≡ false) id (λ e. record e { value = action }) (λ k e held. held) entries all
 
--- without an error, what holds at Ok holds
-at-ok : {T E : Type 0} (r : Result T E) (P : Type 0) → result_err r ≡ None → OnOk r P → P
-at-ok (Ok x) P none p = p
-at-ok (Err e) P none p = cc
-
 pub invariant_of-self : goal.invariant_of-self
 invariant_of-self c =
     let s = c.self.inside in
@@ -45,6 +39,8 @@ invariant_of-self c =
     record {
       in_effect = subst AreInEffect (sym is) (all-updated c.args.id c.args.action.now s.shared.entries c.self.invariant.in_effect);
       on_port = subst (AreOn s.rxq) (sym is) (AreOn-updated s.rxq c.args.id c.args.action.now s.shared.entries on c.self.invariant.on_port);
+      outside = c.self.invariant.outside;
+      slots = c.self.invariant.slots;
     }
 
 pub returns-clause-state : goal.returns-clause-state
@@ -52,7 +48,7 @@ returns-clause-state c =
     let s = c.self.inside in
     let none = due (state_kept s) _ c.self.view_is c.self.invariant.in_effect c.args.limits.now.rxq c.args.id c.args.action.now c.requires.port c.requires.due in
     let is = at-ok c.update.result _ (c.update.ensures.fault ∙ none) c.update.ensures.updated in
-    let with_shared' : Shared → State = λ vs. record { rules = map placed s.rules.list; shared = vs; isolated = s.isolated; ids = s.ids; rxq = s.rxq } in
+    let with_shared' : Shared → State = λ vs. record { rules = map placed s.rules.list; shared = vs; templates = plans_of s.templates; isolated = s.isolated; ids = s.ids; rxq = s.rxq } in
     ap (λ es. with_shared' (values_in_effect es)) is
     ∙ ap with_shared' (seen-updated c.args.id c.args.action.now s.shared.entries (update-clear c.args.limits.now.rxq s.shared.entries c.args.id c.args.action.now none).there)
     ∙ ap (λ (k : KeptState). shared_set c.args.id c.args.action.now (state_in k)) c.self.view_is

@@ -5,7 +5,7 @@ use Rattle.rules_in_effect.specs.Entries as rules
 use Rattle.indirect_counters.specs.declared.shared_action.SharedAction.{SharedAction}
 use Rattle.indirect_counters.specs.Entries.{Entries, entry_at, values_in_effect}
 use Rattle.adapter.specs.State.{State, is_user, objects, shared_set}
-use Rattle.adapter.specs.KeptState.{KeptState, state_in, placed}
+use Rattle.adapter.specs.KeptState.{KeptState, state_in, placed, plans_of}
 use Rattle.adapter.specs.StateInside.{state_kept, AreInEffect}
 use Rattle.std.proofs.lemmas.List.Elements.{All-push}
 use Rattle.flow_rules.specs.Shared.{IsSharedOn}
@@ -30,12 +30,14 @@ invariant_of-self c =
     record {
       in_effect = subst AreInEffect (sym c.add.ensures) (All-push (λ (entry : ℕ × SharedAction). entry.1.held ≡ false) s.shared.entries _ c.self.invariant.in_effect refl);
       on_port = subst (AreOn s.rxq) (sym c.add.ensures) (AreOn-added s.rxq c.args.id c.args.action.now false s.shared.entries on c.self.invariant.on_port);
+      outside = c.self.invariant.outside;
+      slots = c.self.invariant.slots;
     }
 
 pub returns-clause-state : goal.returns-clause-state
 returns-clause-state c =
     let s = c.self.inside in
-    let with_shared' : Shared → State = λ vs. record { rules = map placed s.rules.list; shared = vs; isolated = s.isolated; ids = s.ids; rxq = s.rxq } in
+    let with_shared' : Shared → State = λ vs. record { rules = map placed s.rules.list; shared = vs; templates = plans_of s.templates; isolated = s.isolated; ids = s.ids; rxq = s.rxq } in
     ap (λ es. with_shared' (values_in_effect es)) c.add.ensures
     ∙ ap with_shared' (values-added c.args.id c.args.action.now s.shared.entries (can (state_kept s) _ c.self.view_is c.self.invariant.in_effect c.args.id c.args.action.now c.requires.free).free)
     ∙ ap (λ (k : KeptState). shared_set c.args.id c.args.action.now (state_in k)) c.self.view_is

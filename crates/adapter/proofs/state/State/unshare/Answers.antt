@@ -4,7 +4,7 @@ use Rattle.rules_in_effect.specs.Entries as rules
 use Rattle.indirect_counters.specs.declared.shared_action.SharedAction.{SharedAction}
 use Rattle.indirect_counters.specs.Entries.{Entries, entry_at, in_effect_at, values_in_effect}
 use Rattle.adapter.specs.State.{State, objects, shared_gone}
-use Rattle.adapter.specs.KeptState.{KeptState, state_in, placed}
+use Rattle.adapter.specs.KeptState.{KeptState, state_in, placed, plans_of}
 use Rattle.adapter.specs.StateInside.{state_kept, AreInEffect}
 use Rattle.indirect_counters.specs.Sound.{AreOn}
 use Rattle.indirect_counters.specs.Refusals.{destroy_fault}
@@ -20,12 +20,14 @@ invariant_of-self c =
     record {
       in_effect = subst AreInEffect (sym c.remove.ensures) (All-without (λ (entry : ℕ × SharedAction). entry.1.held ≡ false) c.args.id s.shared.entries c.self.invariant.in_effect);
       on_port = subst (AreOn s.rxq) (sym c.remove.ensures) (AreOn-without s.rxq c.args.id s.shared.entries c.self.invariant.on_port);
+      outside = c.self.invariant.outside;
+      slots = c.self.invariant.slots;
     }
 
 pub returns-clause-state : goal.returns-clause-state
 returns-clause-state c =
     let s = c.self.inside in
-    let with_shared' : Shared → State = λ vs. record { rules = map placed s.rules.list; shared = vs; isolated = s.isolated; ids = s.ids; rxq = s.rxq } in
+    let with_shared' : Shared → State = λ vs. record { rules = map placed s.rules.list; shared = vs; templates = plans_of s.templates; isolated = s.isolated; ids = s.ids; rxq = s.rxq } in
     let there : IsSome (in_effect_at c.args.id s.shared.entries) =
     destroy-there s.rules.list s.shared.entries c.self.invariant.in_effect c.args.id (ap (λ (k : KeptState). destroy_fault (objects (state_in k)) c.args.id) c.self.view_is ∙ c.requires.due) in
     ap (λ es. with_shared' (values_in_effect es)) c.remove.ensures

@@ -1,7 +1,7 @@
 use Rattle.std.proofs.Common.{◌≡◌, sym, subst, None}
 use Rattle.flow_rules.specs.Naming.{rule_at, HaveOwnIds}
 use Rattle.flow_rules.specs.Walk.{Flows}
-use Rattle.replica.specs.Lawful.{IsNew}
+use Rattle.flow_rules.specs.Lawful.{IsNew}
 use Rattle.replica.proofs.OwnIds.{own-pushed, own-without}
 use Rattle.replica.proofs.current_flows.CurrentFlows.apply.Goals as goal
 

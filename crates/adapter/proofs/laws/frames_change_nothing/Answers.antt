@@ -1,0 +1,10 @@
+use Rattle.adapter.specs.declared.entry.Entry.TheVariants.{Passed}
+use Rattle.adapter.proofs.ChangesTold.{changes_of-passed}
+use Rattle.adapter.proofs.SoundGrowth.{state_of-push}
+use Rattle.adapter.proofs.laws.frames_change_nothing.Goals as goal
+
+pub returns-clause-changes : goal.returns-clause-changes
+returns-clause-changes c = changes_of-passed
+
+pub returns-clause-state : goal.returns-clause-state
+returns-clause-state c = λ limits h caller parcel verdict. state_of-push limits h (Passed caller parcel verdict)

@@ -1,5 +1,0 @@
-use Rattle.replica.proofs.Keeping.{may-behind}
-use Rattle.replica.proofs.laws.changes_keep_what_may_be_in_effect.Goals as goal
-
-pub returns : goal.returns
-returns c = may-behind
