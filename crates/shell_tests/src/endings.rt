@@ -8,15 +8,19 @@ use test_frames::UDP_FRAME;
 use testpmd_shell::Status;
 
 /// A rule, a phase, and nothing else.
-const ONE_PHASE: &[u8] =
+pub(crate) const ONE_PHASE: &[u8] =
     b"flow create 0 ingress pattern eth / end actions queue index 1 / end\nstart\nstop\n";
 
-const ONE_FRAME: [Frame; 1] = [(&UDP_FRAME, &[])];
+pub(crate) const ONE_FRAME: [Frame; 1] = [(&UDP_FRAME, &[])];
 
-const THREE_FRAMES: [Frame; 3] = [(&UDP_FRAME, &[]), (&UDP_FRAME, &[]), (&UDP_FRAME, &[])];
+pub(crate) const THREE_FRAMES: [Frame; 3] = [
+    (&UDP_FRAME, &[]),
+    (&UDP_FRAME, &[]),
+    (&UDP_FRAME, &[]),
+];
 
 /// The UDP frame in a file that a big-endian machine wrote, with its stamp in nanoseconds.
-const BIG_ENDIAN_NANOSECONDS: [u8; 100] = [
+pub(crate) const BIG_ENDIAN_NANOSECONDS: [u8; 100] = [
     0xa1, 0xb2, 0x3c, 0x4d, 0x00, 0x02, 0x00, 0x04, 0x00, 0x00, 0x00, 0x00, 0x00, 0x00, 0x00, 0x00,
     0x00, 0x04, 0x00, 0x00, 0x00, 0x00, 0x00, 0x01, 0x00, 0x00, 0x00, 0x07, 0x00, 0x00, 0x23, 0x28,
     0x00, 0x00, 0x00, 0x3c, 0x00, 0x00, 0x00, 0x3c, 0x02, 0x00, 0x00, 0x00, 0x00, 0x01, 0x02, 0x00,

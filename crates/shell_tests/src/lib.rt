@@ -21,3 +21,7 @@ mod phases;
 mod rules;
 #[cfg(test)]
 mod run;
+#[cfg(test)]
+mod sending;
+#[cfg(test)]
+mod templates;

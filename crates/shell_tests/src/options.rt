@@ -126,8 +126,8 @@ const REFUSED: [(&str, &[&str]); 25] = [
     ("help", &["--cmdline-file=script", "--help"]),
     ("a letter's version", &["--cmdline-file=script", "-V"]),
     (
-        "a transmit file",
-        &["--cmdline-file=script", "--tx-pcap=delivered"],
+        "two transmit files",
+        &["--cmdline-file=script", "--tx-pcap=sent", "--tx-pcap=sent"],
     ),
     ("a demo", &["--demo=1"]),
 ];

@@ -31,6 +31,9 @@ const FILE_HEADER: [u8; 24] = [
 /// A named frame, and those of its bytes that are others, by their places.
 pub(crate) type Frame = (&'static [u8], &'static [(usize, u8)]);
 
+/// A record: its header of 16 bytes, and its frame.
+pub(crate) type Record = ([u8; 16], Frame);
+
 /// The bytes of a capture.
 #[derive(Clone, Copy)]
 pub(crate) enum Capture<'a> {
@@ -38,17 +41,20 @@ pub(crate) enum Capture<'a> {
     Of(&'a [Frame]),
     /// As many bytes of the front of a capture of these frames.
     Front(&'a [Frame], usize),
+    /// A capture of these records.
+    Records(&'a [Record]),
     /// These bytes.
     Bytes(&'a [u8]),
 }
 
-/// Where an edge fails: nowhere, at an opening, or at a byte of the capture or of the sink.
+/// Where an edge fails: nowhere, at an opening, or at a byte of the capture, of the sink or of the transmit file.
 #[derive(Clone, Copy)]
 pub(crate) enum Fails {
     Nowhere,
     Opening(u32),
     Capture(u64),
     Sink(u64),
+    Transmit(u64),
 }
 
 /// A session: what it shows, its words, its files, where an edge fails, and its status with what is written.
@@ -107,9 +113,15 @@ impl<'a> Row<'a> {
 pub(crate) type Told<'a> = (&'a str, &'a [&'a str], &'a str, &'a [Frame], &'a str);
 
 fn push_frame(bytes: &mut Vec<u8>, frame: &Frame) -> Result<(), AllocError> {
-    let (named, changes) = frame;
+    let (named, _) = frame;
     let len = named.len().min(255) as u8;
-    bytes.extend_from_slice(&[0, 0, 0, 0, 0, 0, 0, 0, len, 0, 0, 0, len, 0, 0, 0])?;
+    let header = [0, 0, 0, 0, 0, 0, 0, 0, len, 0, 0, 0, len, 0, 0, 0];
+    push_record(bytes, &(header, *frame))
+}
+
+fn push_record(bytes: &mut Vec<u8>, record: &Record) -> Result<(), AllocError> {
+    let (header, (named, changes)) = record;
+    bytes.extend_from_slice(header)?;
     let start = bytes.len();
     bytes.extend_from_slice(named)?;
     for (place, byte) in *changes {
@@ -129,6 +141,15 @@ fn file_of(alloc: Global, frames: &[Frame]) -> Result<Vec<u8>, AllocError> {
     Ok(bytes)
 }
 
+/// A capture of these records.
+pub(crate) fn file_of_records(alloc: Global, records: &[Record]) -> Result<Vec<u8>, AllocError> {
+    let mut bytes = Vec::from_slice(alloc, &FILE_HEADER)?;
+    for record in records {
+        push_record(&mut bytes, record)?;
+    }
+    Ok(bytes)
+}
+
 fn bytes_of(alloc: Global, capture: Capture<'_>) -> Result<Vec<u8>, AllocError> {
     match capture {
         Capture::Of(frames) => file_of(alloc, frames),
@@ -137,6 +158,7 @@ fn bytes_of(alloc: Global, capture: Capture<'_>) -> Result<Vec<u8>, AllocError> 
             bytes.truncate(len);
             Ok(bytes)
         }
+        Capture::Records(records) => file_of_records(alloc, records),
         Capture::Bytes(bytes) => Vec::from_slice(alloc, bytes),
     }
 }
@@ -150,11 +172,15 @@ fn plan_of(alloc: Global, fails: Fails) -> Result<FaultPlan, AllocError> {
         Fails::Capture(place) => Some(place),
         _ => None,
     };
+    let tx_at = match fails {
+        Fails::Transmit(place) => Some(place),
+        _ => None,
+    };
     Ok(FaultPlan {
         opens,
         script_at: None,
         capture_at,
-        tx_at: None,
+        tx_at,
     })
 }
 
@@ -174,7 +200,7 @@ fn shelf_of(alloc: Global, row: &Row<'_>) -> Result<MemShelf, AllocError>
 {
     let files = files_of(alloc, row)?;
     let plan = plan_of(alloc, row.fails)?;
-    MemShelf::new(alloc, files, 0, plan)
+    MemShelf::new(alloc, files, 4096, plan)
 }
 
 fn sink_of(alloc: Global, row: &Row<'_>) -> Result<MemSink, AllocError>
@@ -187,53 +213,97 @@ fn sink_of(alloc: Global, row: &Row<'_>) -> Result<MemSink, AllocError>
     MemSink::new(alloc, 4096, out_at)
 }
 
-/// The status, and what was written, in the serial order.
-fn run_serial(alloc: Global, row: &Row<'_>) -> Result<(Status, Vec<u8>), AllocError> {
+/// What came of a session: its status, and what was written to the sink and to the transmit file.
+#[derive(Drop)]
+struct Outcome {
+    status: Status,
+    written: Vec<u8>,
+    transmitted: Vec<u8>,
+}
+
+/// What comes of a row in the serial order.
+fn run_serial(alloc: Global, row: &Row<'_>) -> Result<Outcome, AllocError> {
     let mut shelf = shelf_of(alloc, row)?;
     let mut out = sink_of(alloc, row)?;
     let status = session_serial(alloc, row.words, &mut shelf, &mut out);
-    let written = Vec::from_slice(alloc, out.taken())?;
-    Ok((status, written))
+    outcome_of(alloc, status, &shelf, &out)
 }
 
-/// The status, and what was written.
+/// What comes of a row.
 fn run<R: Threads + Wait + Sync>(
     rt: &R,
     alloc: Global,
     row: &Row<'_>,
-) -> Result<(Status, Vec<u8>), AllocError> {
+) -> Result<Outcome, AllocError> {
     let mut shelf = shelf_of(alloc, row)?;
     let mut out = sink_of(alloc, row)?;
     let status = session(rt, alloc, row.words, &mut shelf, &mut out, &OpenGate);
+    outcome_of(alloc, status, &shelf, &out)
+}
+
+fn outcome_of(
+    alloc: Global,
+    status: Status,
+    shelf: &MemShelf,
+    out: &MemSink,
+) -> Result<Outcome, AllocError> {
     let written = Vec::from_slice(alloc, out.taken())?;
-    Ok((status, written))
+    let transmitted = Vec::from_slice(alloc, shelf.written())?;
+    Ok(Outcome {
+        status,
+        written,
+        transmitted,
+    })
 }
 
 fn is_answer(
     rt: &impl Abort,
     row: &Row<'_>,
+    transmitted: &[u8],
     call: &str,
-    answer: Result<(Status, Vec<u8>), AllocError>,
+    answer: Result<Outcome, AllocError>,
 ) {
-    let Ok((status, written)) = answer else {
+    let Ok(outcome) = answer else {
         panic!(rt; "{}, {call}: no memory", row.shows);
     };
+    let status = outcome.status;
     assert!(rt;
         status == row.status,
         "{}, {call}: status {status:?}",
         row.shows
     );
     assert!(rt;
-        written.as_slice() == row.written,
+        outcome.written.as_slice() == row.written,
         "{}, {call}: what is written",
+        row.shows
+    );
+    assert!(rt;
+        outcome.transmitted.as_slice() == transmitted,
+        "{}, {call}: what is transmitted",
         row.shows
     );
 }
 
-/// Runs a row by both calls, and compares the status and what was written.
+/// Runs a row by both calls, and compares the status, what was written and what was transmitted.
+pub(crate) fn expect_sent<R: Abort + Threads + Wait + Sync>(
+    rt: &R,
+    alloc: Global,
+    row: &Row<'_>,
+    transmitted: &[u8],
+) {
+    is_answer(
+        rt,
+        row,
+        transmitted,
+        "session_serial",
+        run_serial(alloc, row),
+    );
+    is_answer(rt, row, transmitted, "session", run(rt, alloc, row));
+}
+
+/// Runs a row that transmits nothing.
 pub(crate) fn expect<R: Abort + Threads + Wait + Sync>(rt: &R, alloc: Global, row: &Row<'_>) {
-    is_answer(rt, row, "session_serial", run_serial(alloc, row));
-    is_answer(rt, row, "session", run(rt, alloc, row));
+    expect_sent(rt, alloc, row, &[]);
 }
 
 /// Runs sessions that are done, and compares their transcripts.

@@ -1,7 +1,12 @@
 pub mod Reading
+pub mod Allowing
+pub mod Keeping
 pub mod Passing
 pub mod PartsRun
 pub mod Asking
 pub mod ScriptSize
 pub mod Running
+pub mod Standing
+pub mod Telling
+pub mod Stopping
 pub mod Statuses

@@ -15,6 +15,8 @@ use Rattle.whole_history.specs.Reach.{first, behind_first, asks_stop, left_by, t
 use Rattle.whole_history.specs.Serial.{asks_of, all_asks_of, passes_of, in_turn, part_of, serial_from}
 use Rattle.testpmd_shell.specs.declared.feed.Feed.{Feed}
 use Rattle.testpmd_shell.specs.Phase.{IsFull, Takes}
+use Rattle.testpmd_shell.specs.Sending.{AreKept}
+use Rattle.testpmd_shell.proofs.Keeping.{AreKept-none, AreKept-asks, AreKept-all_asks}
 use Rattle.testpmd_shell.specs.Parts.{ended_in, taken_in, WasRead, MayRemain, TakesIn, RunsPart, PartsToGo, RunsParts}
 
 -- ---- the frames of a phase, whatever stands behind them
@@ -62,9 +64,9 @@ full (Some n) more rest false false is stays may =
     }
 
 -- a session with a capture
-pub TakesIn-takes : (count : Option ℕ) (feed feed' : Feed) (state' : ShelfState) (content : List ℕ) (frames : List Frame) (before after : Seen)
-    → Takes count feed feed' state'.capture content frames before after → TakesIn count (Some feed) (Some feed') state' content frames before after
-TakesIn-takes count feed feed' state' content frames before after took =
+pub TakesIn-takes : (count : Option ℕ) (feed feed' : Feed) (state' : ShelfState) (content : List ℕ) (frames : List Frame) (before after : Seen) (sent sent' : Option (List ℕ))
+    → Takes count feed feed' state'.capture content frames before after sent sent' → TakesIn count (Some feed) (Some feed') state' content frames before after sent sent'
+TakesIn-takes count feed feed' state' content frames before after sent sent' took =
     let more = took.takes.more in
     let whole = λ (rest : List Frame) (may : MayRemain feed'.reader.ended rest).
     full count more rest feed.reader.ended feed'.reader.ended took.full (λ e. (took.takes.none e).1) may in
@@ -72,6 +74,7 @@ TakesIn-takes count feed feed' state' content frames before after took =
       more = more;
       kept = refl;
       read = took.takes.read;
+      keeps = took.takes.keeps;
       counted = took.takes.counted;
       grows = took.takes.grows;
       taken = λ rest may. (whole rest may).taken;
@@ -81,12 +84,13 @@ TakesIn-takes count feed feed' state' content frames before after took =
     }
 
 -- a session without one
-pub TakesIn-none : (count : Option ℕ) (state' : ShelfState) (content : List ℕ) (frames : List Frame) (before : Seen)
-    → frames ≡ [] → TakesIn count None None state' content frames before before
-TakesIn-none count state' content frames before none = record {
+pub TakesIn-none : (count : Option ℕ) (state' : ShelfState) (content : List ℕ) (frames : List Frame) (before : Seen) (sent : Option (List ℕ))
+    → frames ≡ [] → TakesIn count None None state' content frames before before sent sent
+TakesIn-none count state' content frames before sent none = record {
   more = [];
   kept = refl;
   read = append-nil frames ∙ none;
+  keeps = AreKept-none sent 0 frames before;
   counted = refl;
   grows = record { limits = refl; history = sym (append-nil before.history) };
   taken = λ rest may. ap (first count) (may refl) ∙ nothing count;
@@ -115,14 +119,16 @@ grows-turn step steps s0 s1 s2 one more = record {
 grows-none : (s : Seen) → Grows s s (in_turn [] s.history)
 grows-none s = record { limits = refl; history = sym (append-nil s.history) }
 
-pub RunsPart-section : (calls : List Call) (feed : Option Feed) (state' : ShelfState) (content : List ℕ) (frames : List Frame) (before after : Seen)
+pub RunsPart-section : (calls : List Call) (feed : Option Feed) (state' : ShelfState) (content : List ℕ) (frames : List Frame) (before after : Seen) (sent : Option (List ℕ))
     → WasRead feed state' content frames → Grows before after (asks_of before.limits 0 calls before.history)
-    → RunsPart (Section calls) feed feed state' content frames before after
-RunsPart-section calls feed state' content frames before after was grows = record {
+    → RunsPart (Section calls) feed feed state' content frames before after sent sent
+RunsPart-section calls feed state' content frames before after sent was grows = record {
   more = [];
   kept = refl;
   read = subst (WasRead feed state' content) (sym (append-nil frames)) was;
   counted = sym (add-zero (taken_in feed));
+  keeps = λ are. AreKept-none sent (taken_in feed) frames after
+      (AreKept-asks sent (taken_in feed) frames before.limits 0 calls before.history before after grows are);
   grows = λ rest may. grows;
   taken = λ rest may. refl;
   left = λ rest may. refl;
@@ -147,12 +153,12 @@ grows-opening L opening calls s0 s1 s2 l0 l1 g1 g2 =
     }
 
 pub RunsPart-phase : (opening closing : Call) (count : Option ℕ) (calls : List Call) (agents : List (List Call)) (feed feed' : Option Feed) (state' : ShelfState)
-    (content : List ℕ) (frames : List Frame) (s0 s1 s2 s3 s4 s5 : Seen)
+    (content : List ℕ) (frames : List Frame) (s0 s1 s2 s3 s4 s5 : Seen) (sent sent' : Option (List ℕ))
     → Grows s0 s1 (asks_of s0.limits 0 (opening ∷ []) s0.history) → Grows s1 s2 (asks_of s1.limits 0 calls s1.history)
-    → Grows s2 s3 (all_asks_of s2.limits 1 agents s2.history) → TakesIn count feed feed' state' content frames s3 s4
+    → Grows s2 s3 (all_asks_of s2.limits 1 agents s2.history) → TakesIn count feed feed' state' content frames s3 s4 sent sent'
     → Grows s4 s5 (asks_of s4.limits 0 (closing ∷ []) s4.history)
-    → RunsPart (Phase opening count calls agents closing) feed feed' state' content frames s0 s5
-RunsPart-phase opening closing count calls agents feed feed' state' content frames s0 s1 s2 s3 s4 s5 g1 g2 g3 took g5 =
+    → RunsPart (Phase opening count calls agents closing) feed feed' state' content frames s0 s5 sent sent'
+RunsPart-phase opening closing count calls agents feed feed' state' content frames s0 s1 s2 s3 s4 s5 sent sent' g1 g2 g3 took g5 =
     let L = s0.limits in
     let more = took.more in
     let number = taken_in feed + 1 in
@@ -170,6 +176,11 @@ RunsPart-phase opening closing count calls agents feed feed' state' content fram
       more = more;
       kept = took.kept;
       read = took.read;
+      keeps = λ are. AreKept-asks sent' (taken_in feed') (frames ++ more) s4.limits 0 (closing ∷ []) s4.history s4 s5 g5
+          (took.keeps
+          (AreKept-all_asks sent (taken_in feed) frames s2.limits 1 agents s2.history s2 s3 g3
+          (AreKept-asks sent (taken_in feed) frames s1.limits 0 calls s1.history s1 s2 g2
+          (AreKept-asks sent (taken_in feed) frames s0.limits 0 (opening ∷ []) s0.history s0 s1 g1 are))));
       counted = took.counted;
       grows = λ rest may.
           let passes = passes_of L number (first count (more ++ rest)) in
@@ -186,12 +197,13 @@ RunsPart-phase opening closing count calls agents feed feed' state' content fram
 
 -- ---- all parts
 
-pub PartsToGo-start : (parts : List Part) (feed : Option Feed) (state' : ShelfState) (content : List ℕ) (frames : List Frame) (before : Seen)
-    → WasRead feed state' content frames → PartsToGo parts parts feed feed state' content frames before before
-PartsToGo-start parts feed state' content frames before was = record {
+pub PartsToGo-start : (parts : List Part) (feed : Option Feed) (state' : ShelfState) (content : List ℕ) (frames : List Frame) (before : Seen) (sent : Option (List ℕ))
+    → WasRead feed state' content frames → PartsToGo parts parts feed feed state' content frames before before sent sent
+PartsToGo-start parts feed state' content frames before sent was = record {
   more = [];
   kept = refl;
   read = subst (WasRead feed state' content) (sym (append-nil frames)) was;
+  keeps = AreKept-none sent (taken_in feed) frames before;
   history = λ rest may. refl;
   asked = λ rest may. refl;
 }
@@ -201,11 +213,11 @@ or_assoc true b c = refl
 or_assoc false b c = refl
 
 -- one more part was run
-pub PartsToGo-next : (parts : List Part) (part : Part) (others : List Part) (start feed feed' : Option Feed) (state state' : ShelfState) (content : List ℕ) (frames : List Frame) (before mid after : Seen)
-    → (go : PartsToGo parts (part ∷ others) start feed state content frames before mid) → mid.limits ≡ before.limits
-    → RunsPart part feed feed' state' content (frames ++ go.more) mid after
-    → PartsToGo parts others start feed' state' content frames before after
-PartsToGo-next parts part others start feed feed' state state' content frames before mid after go limits ran =
+pub PartsToGo-next : (parts : List Part) (part : Part) (others : List Part) (start feed feed' : Option Feed) (state state' : ShelfState) (content : List ℕ) (frames : List Frame) (before mid after : Seen) (first sent sent' : Option (List ℕ))
+    → (go : PartsToGo parts (part ∷ others) start feed state content frames before mid first sent) → mid.limits ≡ before.limits
+    → RunsPart part feed feed' state' content (frames ++ go.more) mid after sent sent'
+    → PartsToGo parts others start feed' state' content frames before after first sent'
+PartsToGo-next parts part others start feed feed' state state' content frames before mid after first sent sent' go limits ran =
     let L = before.limits in
     let more = ran.more in
     let number = taken_in feed + 1 in
@@ -215,6 +227,7 @@ PartsToGo-next parts part others start feed feed' state state' content frames be
       more = go.more ++ more;
       kept = ran.kept ∙ go.kept;
       read = subst (WasRead feed' state' content) (append_assoc frames go.more more) ran.read;
+      keeps = λ are. subst (λ fs. AreKept sent' (taken_in feed') fs after) (append_assoc frames go.more more) (ran.keeps (go.keeps are));
       history = λ rest may.
           let fs = more ++ rest in
           let left : left_by part fs ≡ rest = ran.left rest may in
@@ -239,12 +252,13 @@ PartsToGo-next parts part others start feed feed' state state' content frames be
     }
 
 -- no part is left
-pub RunsParts-end : (parts : List Part) (start feed : Option Feed) (state' : ShelfState) (content : List ℕ) (frames : List Frame) (before after : Seen)
-    → PartsToGo parts [] start feed state' content frames before after → RunsParts parts start feed state' content frames before after
-RunsParts-end parts start feed state' content frames before after go = record {
+pub RunsParts-end : (parts : List Part) (start feed : Option Feed) (state' : ShelfState) (content : List ℕ) (frames : List Frame) (before after : Seen) (sent sent' : Option (List ℕ))
+    → PartsToGo parts [] start feed state' content frames before after sent sent' → RunsParts parts start feed state' content frames before after sent sent'
+RunsParts-end parts start feed state' content frames before after sent sent' go = record {
   more = go.more;
   kept = go.kept;
   read = go.read;
+  keeps = go.keeps;
   history = λ rest may. sym (append-nil after.history) ∙ sym (go.history rest may);
   asked = λ rest may. go.asked rest may ∙ or-false (ended_in feed);
 } where

@@ -12,19 +12,24 @@ use Rattle.flow_rules.specs.declared.limits.Limits.{Limits}
 use Rattle.whole_history.specs.Reach.{parcel_of}
 use Rattle.whole_history.specs.Serial.{caller_at, passes_of}
 use Rattle.whole_history.proofs.Extending.{passes_of-last}
+use Rattle.std.specs.Io.KnownBytes.{append_known}
 use Rattle.testpmd_shell.specs.declared.feed.Feed.{Feed}
-use Rattle.testpmd_shell.specs.Feed.{HasRead, ReadsOn}
+use Rattle.testpmd_shell.specs.declared.feed.Arrived.{Arrived}
+use Rattle.testpmd_shell.specs.Feed.{HasRead, ReadsOn, frame_in}
+use Rattle.testpmd_shell.specs.Sending.{flows_now, sent_by, AreKept}
+use Rattle.testpmd_shell.proofs.Keeping.{AreKept-none, AreKept-frame}
 use Rattle.testpmd_shell.specs.Phase.{parcel_at, is_spent, one_less, IsLeftOf, IsFull, GoesOn, Takes}
 
 -- nothing was taken so far
-pub GoesOn-none : (count : Option ℕ) (feed : Feed) (slot : SlotState) (content : List ℕ) (frames : List Frame) (before : Seen)
-    → HasRead feed slot content frames → GoesOn count count feed feed slot content frames before before
-GoesOn-none count feed slot content frames before has = record {
+pub GoesOn-none : (count : Option ℕ) (feed : Feed) (slot : SlotState) (content : List ℕ) (frames : List Frame) (before : Seen) (sent : Option (List ℕ))
+    → HasRead feed slot content frames → GoesOn count count feed feed slot content frames before before sent sent
+GoesOn-none count feed slot content frames before sent has = record {
   takes = record {
     more = [];
     read = subst (HasRead feed slot content) (sym (append-nil frames)) has;
     grows = record { limits = refl; history = sym (append-nil before.history) };
     counted = sym (add-zero feed.taken);
+    keeps = AreKept-none sent feed.taken frames before;
     none = λ ended. (refl, ended);
   };
   remains = all count;
@@ -62,21 +67,28 @@ grows-next before mid after number number' more frame bytes grew shown counted e
     }
 
 -- one more frame was taken
-pub GoesOn-next : (count left : Option ℕ) (start feed feed' : Feed) (slot slot' : SlotState) (content : List ℕ) (frames : List Frame) (before mid after : Seen) (len : ℕ)
-    → (go : GoesOn count left start feed slot content frames before mid) → start.reader.ended ≡ false → is_spent left ≡ false
-    → ReadsOn feed' slot' content (frames ++ go.takes.more) (Some len) → feed'.taken ≡ feed.taken + 1
-    → Grows mid after (passed_by mid.limits mid.history (caller_at 9) (parcel_at feed'.taken (take len feed'.buffer.items)) ∷ [])
-    → GoesOn count (one_less left) start feed' slot' content frames before after
-GoesOn-next count left start feed feed' slot slot' content frames before mid after len go running unspent reads counts enters =
+pub GoesOn-next : (count left : Option ℕ) (start feed feed' : Feed) (slot slot' : SlotState) (content : List ℕ) (frames : List Frame) (before mid after : Seen) (first sent sent' : Option (List ℕ)) (arrived : Arrived)
+    → (go : GoesOn count left start feed slot content frames before mid first sent) → start.reader.ended ≡ false → is_spent left ≡ false
+    → ReadsOn feed' slot' content (frames ++ go.takes.more) (Some arrived) → feed'.taken ≡ feed.taken + 1
+    → Grows mid after (passed_by mid.limits mid.history (caller_at 9) (parcel_at feed'.taken (take arrived.len feed'.buffer.items)) ∷ [])
+    → sent' ≡ append_known sent (sent_by (flows_now mid) arrived (take arrived.len feed'.buffer.items))
+    → GoesOn count (one_less left) start feed' slot' content frames before after first sent'
+GoesOn-next count left start feed feed' slot slot' content frames before mid after first sent sent' arrived go running unspent reads counts enters sends =
     let more = go.takes.more in
-    let frame = reads.0 in
+    let bytes = take arrived.len feed'.buffer.items in
+    let frame = frame_in arrived bytes in
+    let enters-here : Grows mid after (passed_by mid.limits mid.history (caller_at 9) (parcel_at (feed.taken + 1) bytes) ∷ []) =
+    subst (λ n. Grows mid after (passed_by mid.limits mid.history (caller_at 9) (parcel_at n bytes) ∷ [])) counts enters in
     let long : length (more ++ frame ∷ []) ≡ length more + 1 = length-append more (frame ∷ []) in
     let number : feed'.taken ≡ (start.taken + 1) + length more = let counted = go.takes.counted in omega arith in
     record {
       takes = record {
         more = more ++ frame ∷ [];
-        read = subst (HasRead feed' slot' content) (append_assoc frames more (frame ∷ [])) reads.2;
-        grows = grows-next before mid after (start.taken + 1) feed'.taken more frame (take len feed'.buffer.items) go.takes.grows reads.1 number enters;
+        read = subst (HasRead feed' slot' content) (append_assoc frames more (frame ∷ [])) reads;
+        grows = grows-next before mid after (start.taken + 1) feed'.taken more frame bytes go.takes.grows refl number enters;
+        keeps = λ are. subst (λ fs. AreKept sent' feed'.taken fs after) (append_assoc frames more (frame ∷ []))
+            (subst (λ n. AreKept sent' n ((frames ++ more) ++ frame ∷ []) after) (sym counts)
+            (AreKept-frame sent sent' feed.taken (frames ++ more) arrived bytes mid after enters-here sends (go.takes.keeps are)));
         counted = let counted = go.takes.counted in omega arith;
         none = λ ended. cc;
       };
@@ -111,24 +123,25 @@ IsFull-ended (Some n) left taken ended ended' at_end remains unspent =
       apart e = cc
 
 -- the phase has all its frames, or the capture had ended before it
-pub Takes-here : (count left : Option ℕ) (start feed : Feed) (slot : SlotState) (content : List ℕ) (frames : List Frame) (before after : Seen)
-    → GoesOn count left start feed slot content frames before after → feed.reader.ended ≡ start.reader.ended → (feed.reader.ended ≡ true) ⊎ (is_spent left ≡ true)
-    → Takes count start feed slot content frames before after
-Takes-here count left start feed slot content frames before after go same done = record {
+pub Takes-here : (count left : Option ℕ) (start feed : Feed) (slot : SlotState) (content : List ℕ) (frames : List Frame) (before after : Seen) (sent sent' : Option (List ℕ))
+    → GoesOn count left start feed slot content frames before after sent sent' → feed.reader.ended ≡ start.reader.ended → (feed.reader.ended ≡ true) ⊎ (is_spent left ≡ true)
+    → Takes count start feed slot content frames before after sent sent'
+Takes-here count left start feed slot content frames before after sent sent' go same done = record {
   takes = go.takes;
   full = IsFull-here count left (length go.takes.more) start.reader.ended feed.reader.ended same go.remains done;
 }
 
 -- the capture ended
-pub Takes-ended : (count left : Option ℕ) (start feed feed' : Feed) (slot slot' : SlotState) (content : List ℕ) (frames : List Frame) (before after : Seen)
-    → (go : GoesOn count left start feed slot content frames before after) → is_spent left ≡ false → HasRead feed' slot' content (frames ++ go.takes.more)
+pub Takes-ended : (count left : Option ℕ) (start feed feed' : Feed) (slot slot' : SlotState) (content : List ℕ) (frames : List Frame) (before after : Seen) (sent sent' : Option (List ℕ))
+    → (go : GoesOn count left start feed slot content frames before after sent sent') → is_spent left ≡ false → HasRead feed' slot' content (frames ++ go.takes.more)
     → feed'.taken ≡ feed.taken → feed'.reader.ended ≡ true
-    → Takes count start feed' slot' content frames before after
-Takes-ended count left start feed feed' slot slot' content frames before after go unspent has counts ended = record {
+    → Takes count start feed' slot' content frames before after sent sent'
+Takes-ended count left start feed feed' slot slot' content frames before after sent sent' go unspent has counts ended = record {
   takes = record {
     more = go.takes.more;
     read = has;
     grows = go.takes.grows;
+    keeps = λ are. subst (λ n. AreKept sent' n (frames ++ go.takes.more) after) (sym counts) (go.takes.keeps are);
     counted = counts ∙ go.takes.counted;
     none = λ e. (let none = go.takes.none e in none.0, ended);
   };

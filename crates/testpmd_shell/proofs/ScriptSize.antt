@@ -21,6 +21,7 @@ is_over-fits script short small = or_from (nat_lt 1048576 (length script)) (is_t
 
 pub IsScriptStop-over : (content : Option (List ℕ)) (before now : ℕ) (why : Stopped) → IsScriptStop IsLong content before now why → IsScriptStop IsOver content before now why
 IsScriptStop-over content before now stopped.ReadFault stop = stop
+IsScriptStop-over content before now stopped.WriteFault stop = absurd stop
 IsScriptStop-over None before now stopped.TooLarge stop = stop
 IsScriptStop-over (Some script) before now stopped.TooLarge stop = (stop.0, IsOver-long script stop.1)
 IsScriptStop-over content before now stopped.NoMemory stop = stop

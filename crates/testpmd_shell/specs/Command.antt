@@ -12,6 +12,6 @@ abbrev pub bare_command : App
 bare_command = on_top (λ s. record s { no_binary_name = true; disable_help_flag = true; disable_version_flag = true }) (new_app (codes "flowpmd"))
 
 abbrev pub shell_command : App
-shell_command = with_rule (with_rule (with_rule (with_rule (with_rule bare_command
-    (option_named (codes "cmdline-file"))) (option_named (codes "rx-pcap")))
+shell_command = with_rule (with_rule (with_rule (with_rule (with_rule (with_rule bare_command
+    (option_named (codes "cmdline-file"))) (option_named (codes "rx-pcap"))) (option_named (codes "tx-pcap")))
     (option_named (codes "rxq"))) (option_named (codes "nb-cores"))) (option_named (codes "flow-max"))

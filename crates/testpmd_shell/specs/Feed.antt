@@ -9,6 +9,7 @@ use Rattle.history_text.specs.declared.ending.Ending.TheVariants as endings
 use Rattle.io_edges.specs.Faults.{Rose}
 use Rattle.io_edges.specs.ShelfState.{SlotState}
 use Rattle.testpmd_shell.specs.declared.feed.Feed.{Feed}
+use Rattle.testpmd_shell.specs.declared.feed.Arrived.{Arrived}
 
 -- The buffer holds any frame, of which the longest has 262,144 bytes. While the reader runs its frames are counted, and
 -- the capture hasn't ended.
@@ -36,15 +37,25 @@ pub record HasRead (feed : Feed) (slot : SlotState) (content : List ℕ) (frames
   pub given : feed.reader.ended ≡ false → (gone : List ℕ) → slot.given ≡ Some gone → (rest : List ℕ) → capture (gone ++ rest) ≡ in_front frames (rest_of feed.reader rest)
   pub ended : feed.reader.ended ≡ true → HasEnded feed.ending slot content frames
 
+-- the frame that arrived in those bytes
+abbrev pub frame_in : Arrived → List ℕ → Frame
+frame_in arrived bytes = record {
+  bytes = bytes;
+  seconds = arrived.stamp.seconds;
+  part = arrived.stamp.part;
+  nano = arrived.stamp.nano;
+  wire_len = arrived.wire_len;
+}
+
 -- the next frame was read, and is the front of the buffer; or there was none
-abbrev pub ReadsOn : Feed → SlotState → List ℕ → List Frame → Option ℕ → Type 0
+abbrev pub ReadsOn : Feed → SlotState → List ℕ → List Frame → Option Arrived → Type 0
 ReadsOn feed slot content frames None = HasRead feed slot content frames
-ReadsOn feed slot content frames (Some len) = (frame : Frame) × (frame.bytes ≡ take len feed.buffer.items) × HasRead feed slot content (frames ++ frame ∷ [])
+ReadsOn feed slot content frames (Some arrived) = HasRead feed slot content (frames ++ frame_in arrived (take arrived.len feed.buffer.items) ∷ [])
 
 -- A frame was counted, of which a capture has at most 1,048,576; or none was, and the capture has ended.
-abbrev pub CountsOn : Feed → Feed → Option ℕ → Type 0
+abbrev pub CountsOn : Feed → Feed → Option Arrived → Type 0
 CountsOn old new None = (new.taken ≡ old.taken) × (new.reader.ended ≡ true)
-CountsOn old new (Some len) = (new.taken ≡ old.taken + 1) × (new.taken ≤ 1048576) × (new.reader.ended ≡ false)
+CountsOn old new (Some arrived) = (new.taken ≡ old.taken + 1) × (new.taken ≤ 1048576) × (new.reader.ended ≡ false)
 
 -- the count of failed reads rose where the capture ended by one
 abbrev pub IsFaultOf : Ending → ℕ → ℕ → Type 0

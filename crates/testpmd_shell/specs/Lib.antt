@@ -4,8 +4,11 @@ pub mod Options
 pub mod Status
 pub mod Run
 pub mod Found
+pub mod Transmitted
 pub mod Session
 pub mod Feed
+pub mod Sending
+pub mod Standing
 pub mod Phase
 pub mod Parts
 pub mod Fetch

@@ -6,17 +6,25 @@ use Rattle.testpmd_shell.specs.declared.options.Options.{Options}
 use Rattle.testpmd_shell.specs.Command.{shell_command}
 use Rattle.testpmd_shell.specs.Numbers.{queues_of, cores_of, rules_of}
 
--- the script's name, the capture's name if there is one, and the numbers of Rx queues, of workers, and of rules that may be
--- in effect
+-- the script's name, the names of the capture and of the transmit file if there are any, and the numbers of Rx queues, of
+-- workers, and of rules that may be in effect
 pub record Given : Type 0 where
   pub script : Text
   pub capture : Option Text
+  pub transmit : Option Text
   pub rxq : ℕ
   pub cores : ℕ
   pub flow_max : ℕ
 
 abbrev pub given_of : Options → Given
-given_of o = record { script = o.script.now; capture = option_copied o.capture; rxq = o.rxq; cores = o.cores; flow_max = o.flow_max }
+given_of o = record {
+  script = o.script.now;
+  capture = option_copied o.capture;
+  transmit = option_copied o.transmit;
+  rxq = o.rxq;
+  cores = o.cores;
+  flow_max = o.flow_max;
+}
 
 -- what is read, and how to go on with it
 infixl 10 ◌>>=◌
@@ -30,7 +38,14 @@ given_in rows = do
   rxq ← queues_of (first_of (codes "rxq") rows)
   cores ← cores_of (first_of (codes "nb-cores") rows)
   flow_max ← rules_of (first_of (codes "flow-max") rows)
-  Some (record { script = script; capture = first_of (codes "rx-pcap") rows; rxq = rxq; cores = cores; flow_max = flow_max })
+  Some (record {
+    script = script;
+    capture = first_of (codes "rx-pcap") rows;
+    transmit = first_of (codes "tx-pcap") rows;
+    rxq = rxq;
+    cores = cores;
+    flow_max = flow_max;
+  })
 
 -- the command takes the words, and what it finds gives options
 abbrev pub options_of : List Text → Option Given

@@ -10,6 +10,7 @@ use Rattle.history_text.specs.declared.ending.Ending.{Ending}
 use Rattle.history_text.specs.declared.ending.Ending.TheVariants as endings
 use Rattle.testpmd_shell.specs.declared.feed.Feed.{Feed}
 use Rattle.testpmd_shell.specs.Feed.{IsReady, HasRead}
+use Rattle.testpmd_shell.specs.Sending.{AreKept}
 
 -- A session without a capture is at its end from the start.
 abbrev pub ended_in : Option Feed → Bool
@@ -39,10 +40,11 @@ abbrev pub MayRemain : Bool → List Frame → Type 0
 MayRemain ended rest = ended ≡ true → rest ≡ []
 
 -- A phase with that count took some frames, whatever stands behind them.
-pub record TakesIn (count : Option ℕ) (feed feed' : Option Feed) (state' : ShelfState) (content : List ℕ) (frames : List Frame) (before after : Seen) : Type 0 where
+pub record TakesIn (count : Option ℕ) (feed feed' : Option Feed) (state' : ShelfState) (content : List ℕ) (frames : List Frame) (before after : Seen) (sent sent' : Option (List ℕ)) : Type 0 where
   pub more : List Frame
   pub kept : is_some feed' ≡ is_some feed
   pub read : WasRead feed' state' content (frames ++ more)
+  pub keeps : AreKept sent (taken_in feed) frames before → AreKept sent' (taken_in feed') (frames ++ more) after
   pub counted : taken_in feed' ≡ taken_in feed + length more
   pub grows : Grows before after (passes_of before.limits (taken_in feed + 1) more before.history)
   pub taken : (rest : List Frame) → MayRemain (ended_in feed') rest → first count (more ++ rest) ≡ more
@@ -51,10 +53,11 @@ pub record TakesIn (count : Option ℕ) (feed feed' : Option Feed) (state' : She
   pub none : ended_in feed ≡ true → (more ≡ []) × (ended_in feed' ≡ true)
 
 -- A part took some frames.
-pub record RunsPart (part : Part) (feed feed' : Option Feed) (state' : ShelfState) (content : List ℕ) (frames : List Frame) (before after : Seen) : Type 0 where
+pub record RunsPart (part : Part) (feed feed' : Option Feed) (state' : ShelfState) (content : List ℕ) (frames : List Frame) (before after : Seen) (sent sent' : Option (List ℕ)) : Type 0 where
   pub more : List Frame
   pub kept : is_some feed' ≡ is_some feed
   pub read : WasRead feed' state' content (frames ++ more)
+  pub keeps : AreKept sent (taken_in feed) frames before → AreKept sent' (taken_in feed') (frames ++ more) after
   pub counted : taken_in feed' ≡ taken_in feed + length more
   pub grows : (rest : List Frame) → MayRemain (ended_in feed') rest → Grows before after (part_of before.limits (taken_in feed + 1) (more ++ rest) part before.history)
   pub taken : (rest : List Frame) → MayRemain (ended_in feed') rest → taken_by part (more ++ rest) ≡ more
@@ -63,10 +66,11 @@ pub record RunsPart (part : Part) (feed feed' : Option Feed) (state' : ShelfStat
   pub none : ended_in feed ≡ true → (more ≡ []) × (ended_in feed' ≡ true)
 
 -- What is to go of the parts comes to what was to go at the start.
-pub record PartsToGo (parts parts' : List Part) (feed feed' : Option Feed) (state' : ShelfState) (content : List ℕ) (frames : List Frame) (before after : Seen) : Type 0 where
+pub record PartsToGo (parts parts' : List Part) (feed feed' : Option Feed) (state' : ShelfState) (content : List ℕ) (frames : List Frame) (before after : Seen) (sent sent' : Option (List ℕ)) : Type 0 where
   pub more : List Frame
   pub kept : is_some feed' ≡ is_some feed
   pub read : WasRead feed' state' content (frames ++ more)
+  pub keeps : AreKept sent (taken_in feed) frames before → AreKept sent' (taken_in feed') (frames ++ more) after
   pub history : (rest : List Frame) → MayRemain (ended_in feed') rest
       → before.history ++ serial_from before.limits (taken_in feed + 1) (more ++ rest) parts before.history
       ≡ after.history ++ serial_from before.limits (taken_in feed' + 1) rest parts' after.history
@@ -74,10 +78,11 @@ pub record PartsToGo (parts parts' : List Part) (feed feed' : Option Feed) (stat
       → (ended_in feed || program_asks_stop parts (more ++ rest)) ≡ (ended_in feed' || program_asks_stop parts' rest)
 
 -- All parts were run.
-pub record RunsParts (parts : List Part) (feed feed' : Option Feed) (state' : ShelfState) (content : List ℕ) (frames : List Frame) (before after : Seen) : Type 0 where
+pub record RunsParts (parts : List Part) (feed feed' : Option Feed) (state' : ShelfState) (content : List ℕ) (frames : List Frame) (before after : Seen) (sent sent' : Option (List ℕ)) : Type 0 where
   pub more : List Frame
   pub kept : is_some feed' ≡ is_some feed
   pub read : WasRead feed' state' content (frames ++ more)
+  pub keeps : AreKept sent (taken_in feed) frames before → AreKept sent' (taken_in feed') (frames ++ more) after
   pub history : (rest : List Frame) → MayRemain (ended_in feed') rest
       → after.history ≡ before.history ++ serial_from before.limits (taken_in feed + 1) (more ++ rest) parts before.history
   pub asked : (rest : List Frame) → MayRemain (ended_in feed') rest → (ended_in feed || program_asks_stop parts (more ++ rest)) ≡ ended_in feed'
@@ -85,7 +90,7 @@ pub record RunsParts (parts : List Part) (feed feed' : Option Feed) (state' : Sh
 -- The capture that is named was just opened: nothing was taken, and all of its bytes are to come. Without a name there is
 -- none.
 abbrev pub StartsOver : Option (List ℕ) → Option Feed → ShelfState → ShelfState → Type 0
-StartsOver None None s t = t ≡ s
+StartsOver None None s t = ⊤
 StartsOver None (Some feed) s t = ⊥
 StartsOver (Some name) None s t = ⊥
 StartsOver (Some name) (Some feed) s t = (feed.taken ≡ 0) × (feed.ending ≡ endings.Whole) × (feed.reader.ended ≡ false)

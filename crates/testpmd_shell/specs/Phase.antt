@@ -8,6 +8,7 @@ use Rattle.adapter.specs.Seen.{Seen, Grows}
 use Rattle.whole_history.specs.Serial.{passes_of}
 use Rattle.testpmd_shell.specs.declared.feed.Feed.{Feed}
 use Rattle.testpmd_shell.specs.Feed.{HasRead}
+use Rattle.testpmd_shell.specs.Sending.{AreKept}
 
 -- the parcel of a frame with that number and those bytes
 abbrev pub parcel_at : ℕ → List ℕ → Parcel
@@ -32,20 +33,21 @@ abbrev pub IsFull : Option ℕ → ℕ → Bool → Bool → Type 0
 IsFull None taken ended ended' = ended' ≡ true
 IsFull (Some n) taken ended ended' = (taken ≤ n) × (ended' ≡ false → taken ≡ n) × (ended ≡ false → ended' ≡ true → taken < n)
 
--- More frames were read behind those read before, and each is entered, by worker 0.
-pub record TakesMore (feed feed' : Feed) (slot' : SlotState) (content : List ℕ) (frames : List Frame) (before after : Seen) : Type 0 where
+-- More frames were read behind those read before, and each is entered, by worker 0, and kept where it goes out.
+pub record TakesMore (feed feed' : Feed) (slot' : SlotState) (content : List ℕ) (frames : List Frame) (before after : Seen) (sent sent' : Option (List ℕ)) : Type 0 where
   pub more : List Frame
   pub read : HasRead feed' slot' content (frames ++ more)
   pub grows : Grows before after (passes_of before.limits (feed.taken + 1) more before.history)
   pub counted : feed'.taken ≡ feed.taken + length more
+  pub keeps : AreKept sent feed.taken frames before → AreKept sent' feed'.taken (frames ++ more) after
   pub none : feed.reader.ended ≡ true → (more ≡ []) × (feed'.reader.ended ≡ true)
 
 -- so far in a phase with that count, of which some is left
-pub record GoesOn (count left : Option ℕ) (feed feed' : Feed) (slot' : SlotState) (content : List ℕ) (frames : List Frame) (before after : Seen) : Type 0 where
-  pub takes : TakesMore feed feed' slot' content frames before after
+pub record GoesOn (count left : Option ℕ) (feed feed' : Feed) (slot' : SlotState) (content : List ℕ) (frames : List Frame) (before after : Seen) (sent sent' : Option (List ℕ)) : Type 0 where
+  pub takes : TakesMore feed feed' slot' content frames before after sent sent'
   pub remains : IsLeftOf count (length takes.more) left
 
 -- a phase with that count took its frames
-pub record Takes (count : Option ℕ) (feed feed' : Feed) (slot' : SlotState) (content : List ℕ) (frames : List Frame) (before after : Seen) : Type 0 where
-  pub takes : TakesMore feed feed' slot' content frames before after
+pub record Takes (count : Option ℕ) (feed feed' : Feed) (slot' : SlotState) (content : List ℕ) (frames : List Frame) (before after : Seen) (sent sent' : Option (List ℕ)) : Type 0 where
+  pub takes : TakesMore feed feed' slot' content frames before after sent sent'
   pub full : IsFull count (length takes.more) feed.reader.ended feed'.reader.ended

@@ -10,6 +10,8 @@ pub(crate) const SCRIPT: &str = "cmdline-file";
 
 pub(crate) const CAPTURE: &str = "rx-pcap";
 
+pub(crate) const TRANSMIT: &str = "tx-pcap";
+
 pub(crate) const QUEUES: &str = "rxq";
 
 pub(crate) const CORES: &str = "nb-cores";
@@ -44,6 +46,7 @@ pub(crate) fn shell_command<'a>(alloc: Global) -> Result<Command<'a>, AllocError
     let command = bare_command(alloc);
     let command = with_option(command, alloc, SCRIPT)?;
     let command = with_option(command, alloc, CAPTURE)?;
+    let command = with_option(command, alloc, TRANSMIT)?;
     let command = with_option(command, alloc, QUEUES)?;
     let command = with_option(command, alloc, CORES)?;
     with_option(command, alloc, RULES)

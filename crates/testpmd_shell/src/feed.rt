@@ -6,7 +6,7 @@ ghost use Rattle.io_edges.specs.ShelfState.{ShelfState};
 ghost use Rattle.io_edges.specs.Lent.{KeepsSlot};
 ghost use Rattle.testpmd_shell.specs.Feed.{IsReady, HasRead, ReadsOn, CountsOn, IsFaultOf};
 
-use capture_files::{CaptureReader, Next};
+use capture_files::{CaptureReader, Next, Stamp};
 use history_text::Ending;
 use io_edges::{Shelf, Slot, SlotSource};
 
@@ -18,6 +18,16 @@ pub(crate) struct Feed {
     pub(crate) taken: u32,
     pub(crate) buffer: Vec<u8>,
     pub(crate) ending: Ending,
+}
+
+/// A frame that was read into the front of a buffer.
+#[derive(Clone, Copy)]
+pub(crate) struct Arrived {
+    /// How many bytes were captured.
+    pub(crate) len: usize,
+    /// How many it had on the wire.
+    pub(crate) wire_len: u32,
+    pub(crate) stamp: Stamp,
 }
 
 /// Reads the next record of the capture.
@@ -37,8 +47,8 @@ fn next_record<S: Shelf>(reader: &mut CaptureReader, shelf: &mut S, buffer: &mut
     reader.next(&mut source, buffer)
 }
 
-/// Reads the next frame into the front of the buffer, and gives its length. Where there is none the capture has ended.
-pub(crate) fn next_frame<S: Shelf>(feed: &mut Feed, shelf: &mut S) -> Option<usize>
+/// Reads the next frame into the front of the buffer. Where there is none the capture has ended.
+pub(crate) fn next_frame<S: Shelf>(feed: &mut Feed, shelf: &mut S) -> Option<Arrived>
     requires ready { IsReady feed.old }
     requires running { feed.old.reader.ended ≡ false }
     requires opened { (S.state shelf.old).capture.opened ≡ true }
@@ -46,14 +56,22 @@ pub(crate) fn next_frame<S: Shelf>(feed: &mut Feed, shelf: &mut S) -> Option<usi
     ensures reads { (content : List ℕ) → (frames : List Frame) → HasRead feed.old (S.state shelf.old).capture content frames
         → ReadsOn feed.new (S.state shelf.new).capture content frames result }
     ensures counts { CountsOn feed.old feed.new result }
-    ensures short { IfSome result (λ len. len ≤ 262_144) }
+    ensures short { IfSome result (λ arrived. arrived.len ≤ 262_144) }
     ensures fault { IsFaultOf feed.new.ending (S.state shelf.old).capture.faults (S.state shelf.new).capture.faults }
     ensures keeps { KeepsSlot Slot.Capture (S.state shelf.old) (S.state shelf.new) }
 {
     match next_record(&mut feed.reader, shelf, &mut feed.buffer) {
-        Next::Frame { len, .. } => {
+        Next::Frame {
+            len,
+            wire_len,
+            stamp,
+        } => {
             feed.taken += 1;
-            Some(len as usize)
+            Some(Arrived {
+                len: len as usize,
+                wire_len,
+                stamp,
+            })
         }
         Next::End => None,
         Next::Bad { place, kind } => {

@@ -1,21 +1,23 @@
 //! From the options to the history that is printed.
-ghost use Rattle.std.specs.Prelude.{◌≡◌, ◌≤◌, ◌<◌, ◌-◌, ◌^◌, length, Some, IfOk, IfErr, IfSome, OnOk, option_copied, false, IsTrue, ℕ, List};
+ghost use Rattle.std.specs.Prelude.{◌≡◌, ◌≤◌, ◌<◌, ◌-◌, ◌^◌, length, Some, IfOk, IfErr, IfSome, OnOk, option_copied, is_some, false, IsTrue, ℕ, List};
+ghost use Rattle.io_edges.specs.ShelfState.{ShelfState};
 ghost use Rattle.capture_files.specs.Record.{Frame};
-ghost use Rattle.io_edges.specs.ShelfState.{read_faults};
 ghost use Rattle.testpmd_shell.specs.Options.{given_of};
-ghost use Rattle.testpmd_shell.specs.Session.{IsFresh, Allows, AllowsCapture, IsWhy, IsSizedFirst, IsReadBy};
+ghost use Rattle.testpmd_shell.specs.Sending.{kept_in};
+ghost use Rattle.testpmd_shell.specs.Session.{IsFresh, Allows, AllowsCapture, AllowsTransmit, IsWhy, IsSizedFirst, IsReadBy};
 ghost use Rattle.testpmd_shell.specs.Run.{early_faults};
-ghost use Rattle.testpmd_shell.specs.Fetch.{IsScriptStop, IsLong, IsOver, IsOpeningStop, OthersThanScript, OthersThanCapture, HasRun, status_of_stop};
+ghost use Rattle.testpmd_shell.specs.Transmitted.{IsAsOpened};
+ghost use Rattle.testpmd_shell.specs.Fetch.{IsScriptStop, IsLong, IsOver, IsOpeningStop, IsWritingStop, IsFilesStop, OthersThanScript, OthersThanCapture, OthersThanBoth, HasRun, status_of_stop};
 ghost use Rattle.testpmd_shell.specs.Parts.{IsOpen, WasRead, ending_in, taken_in, ended_in, StartsOver};
 ghost use Rattle.testpmd_shell.specs.Found.{limits_of, is_over};
-ghost use Rattle.adapter.specs.Sound.{AreLimits};
+ghost use Rattle.flow_rules.specs.Limits.{AreLimits};
 ghost use Rattle.flow_grammar.specs.Program.{program_of};
 
 use crate::MAX_SCRIPT;
 use crate::feed::Feed;
+use crate::lead::Lead;
 use crate::options::Options;
 use crate::parts::run_parts;
-use adapter::Adapter;
 use capture_files::{CaptureReader, MAX_FRAME_LEN};
 use flow_grammar::{Program, ProgramFault, program};
 use flow_rules::Limits;
@@ -27,6 +29,7 @@ use std::alloc::{AllocError, Global};
 #[derive(Clone, Copy)]
 pub(crate) enum Stopped {
     ReadFault,
+    WriteFault,
     TooLarge,
     NoMemory,
 }
@@ -41,10 +44,10 @@ impl From<AllocError> for Stopped {
     }
 }
 
-/// A script that was run to its end: the adapter with its history, and how the capture ended.
+/// A script that was run to its end: the lead worker with the history and the frames that it kept, and how the capture ended.
 #[derive(Drop)]
 pub(crate) struct Ran {
-    pub(crate) adapter: Adapter,
+    pub(crate) lead: Lead,
     pub(crate) ending: Ending,
 }
 
@@ -128,6 +131,58 @@ fn open_capture<S: Shelf>(
     }))
 }
 
+/// Opens the transmit file, where one is named.
+fn open_transmit<S: Shelf>(shelf: &mut S, name: Option<&str>) -> Result<(), Stopped>
+    requires once { (S.state shelf.old).written.asked ≡ false }
+    requires openings { (S.state shelf.old).written.open_faults < 2 ^ 64 - 1 }
+    requires allowed { AllowsTransmit (option_copied name) (S.state shelf.old) }
+    ensures opened { OnOk result (IsAsOpened (option_copied name.entry) (S.state shelf.old).written (S.state shelf.new).written) }
+    ensures stopped { IfErr result (IsWritingStop (S.state shelf.old).written (S.state shelf.new).written) }
+    ensures others { S.state shelf.new ≡ record (S.state shelf.old) { written = (S.state shelf.new).written } }
+{
+    let Some(name) = name else {
+        return Ok(());
+    };
+    let Ok(()) = shelf.open_write(name) else {
+        return Err(Stopped::WriteFault);
+    };
+    Ok(())
+}
+
+/// Opens the transmit file and the capture, where they are named.
+fn open_both<S: Shelf>(
+    alloc: Global,
+    shelf: &mut S,
+    transmit: Option<&str>,
+    capture: Option<&str>,
+) -> Result<Option<Feed>, Stopped>
+    requires once { ((S.state shelf.old).capture.asked ≡ false) × ((S.state shelf.old).written.asked ≡ false) }
+    requires openings { ((S.state shelf.old).open_faults < 2 ^ 64 - 1) × ((S.state shelf.old).written.open_faults < 2 ^ 64 - 1) }
+    requires allowed { AllowsCapture (option_copied capture) (S.state shelf.old) × AllowsTransmit (option_copied transmit) (S.state shelf.old) }
+    ensures opened { IfOk result (λ feed. IsOpen feed (S.state shelf.new)) }
+    ensures starts { IfOk result (λ feed. StartsOver (option_copied capture.entry) feed (S.state shelf.old) (S.state shelf.new)) }
+    ensures written { OnOk result (IsAsOpened (option_copied transmit.entry) (S.state shelf.old).written (S.state shelf.new).written) }
+    ensures calm { OnOk result ((S.state shelf.new).open_faults ≡ (S.state shelf.old).open_faults) }
+    ensures stopped { IfErr result (IsFilesStop (option_copied transmit.entry) (S.state shelf.old) (S.state shelf.new)) }
+    ensures faults { (S.state shelf.new).capture.faults ≡ (S.state shelf.old).capture.faults }
+    ensures others { OthersThanBoth (S.state shelf.old) (S.state shelf.new) }
+{
+    match open_transmit(shelf, transmit) {
+        Ok(()) => open_capture(alloc, shelf, capture),
+        Err(why) => Err(why),
+    }
+}
+
+/// Whether a file is named.
+fn is_named(name: Option<&str>) -> bool
+    ensures { result ≡ is_some (option_copied name.entry) }
+{
+    match name {
+        Some(_) => true,
+        None => false,
+    }
+}
+
 /// How the capture ended, if there is one.
 fn ending_of(feed: &Option<Feed>) -> Ending
     ensures { result ≡ ending_in feed.now }
@@ -147,19 +202,21 @@ pub(crate) fn fetch<S: Shelf>(
     requires fresh { IsFresh (S.state shelf.old) }
     requires allowed { Allows (Some (given_of options.now)) (S.state shelf.old) }
     requires limits { AreLimits (limits_of (given_of options.now)) }
-    ensures ran { IfOk result (λ ran. HasRun (given_of options.now) (S.state shelf.old) (S.state shelf.new) ran.adapter ran.ending) }
+    ensures ran { IfOk result (λ ran. HasRun (given_of options.now) (S.state shelf.old) (S.state shelf.new) ran.lead.adapter (kept_in ran.lead) ran.ending) }
     ensures why { IfErr result (λ why. IsWhy (given_of options.now) (S.state shelf.old) (S.state shelf.new) (status_of_stop why)) }
     ensures sized { IsSizedFirst (given_of options.now) (S.state shelf.old) (S.state shelf.new) }
     ensures reads { IsReadBy (Some (given_of options.now)) (S.state shelf.old) (S.state shelf.new) }
 {
     let program = read_program(alloc, shelf, options.script)?;
-    let mut feed = open_capture(alloc, shelf, options.capture)?;
+    let mut feed = open_both(alloc, shelf, options.transmit, options.capture)?;
     let limits = Limits {
         rxq: options.rxq,
         flow_max: options.flow_max,
     };
-    let mut adapter = Adapter::new(alloc, limits)?;
-    run_parts(&mut adapter, program.as_slice(), shelf, &mut feed)?;
+    let mut lead = Lead::new(alloc, limits, is_named(options.transmit))?;
+    let Ok(()) = run_parts(&mut lead, program.as_slice(), shelf, &mut feed) else {
+        return Err(Stopped::NoMemory);
+    };
     let ending = ending_of(&feed);
-    Ok(Ran { adapter, ending })
+    Ok(Ran { lead, ending })
 }

@@ -13,8 +13,10 @@
 //! in it exactly once, in its caller's order, and nothing else does.
 //!
 //! The code runs the parts on an adapter and reads one record at a time where a phase asks for it, into one buffer
-//! (`src/phase.rt` has the one loop over a phase's frames). It keeps no frame but its key and length, in the adapter's
-//! history, and prints that history at the end. A capture that stops early (bad, too large, a failed read) gives no further
+//! (`src/phase.rt` has the one loop over a phase's frames). The lead worker judges each frame by a replica of what packets see,
+//! which catches up with the adapter's changes before it (`src/lead.rt`). The history keeps no frame but its key and length; where
+//! a transmit file is named, the worker keeps the bytes of each frame that goes to a queue, as the replica edits them. The history
+//! is printed at the end, and then the transmit file is written (`src/transmit.rt`). A capture that stops early (bad, too large, a failed read) gives no further
 //! frames, and the script runs on: the transcript is printed, and behind its totals the line of the stop, which is the
 //! status too.
 //!
@@ -26,23 +28,31 @@
 //! The words are taken apart by one simple command (`src/command.rt`), and what it makes of them is the definition of the
 //! options (`specs/Options`), with the ranges of the numbers.
 //!
-//! The order is: words; opening and reading the script; its size; opening the capture; the run; the transcript. What stops
-//! in front of the run has written nothing. A capture that no phase reads is never bad.
+//! What is kept of the frames so far is what the history so far sends of them, whatever frames stand behind (`specs/Sending`). So
+//! at the end it is the transmit file of the whole history over all frames (`transmit_of` of `history_text`), and its clause
+//! stands beside that of the transcript, for the same history.
+//!
+//! The order is: words; opening and reading the script; its size; opening the transmit file; opening the capture; the run; the
+//! transcript; the transmit file's bytes. What stops in front of the run has written nothing. A capture that no phase reads is
+//! never bad.
 //!
 //! Not done here: threads (`session` runs the serial order, whatever the number of workers, and
-//! leaves `rt` and `gate` unused) and the transmit file.
+//! leaves `rt` and `gate` unused).
 #![tactic(auto)]
 
 mod ask;
 mod command;
 mod feed;
 mod fetch;
+mod lead;
 mod numbers;
 mod options;
 mod parts;
 mod phase;
+mod sent;
 mod shell;
 mod status;
+mod transmit;
 mod words;
 
 pub use shell::{session, session_serial};

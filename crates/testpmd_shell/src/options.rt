@@ -6,6 +6,8 @@ pub(crate) struct Options<'a> {
     pub(crate) script: &'a str,
     /// The capture's name.
     pub(crate) capture: Option<&'a str>,
+    /// The transmit file's name.
+    pub(crate) transmit: Option<&'a str>,
     /// The number of Rx queues.
     pub(crate) rxq: u8,
     /// The number of workers. Each session takes the serial order, whatever it is.

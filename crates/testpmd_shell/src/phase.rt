@@ -1,36 +1,18 @@
 //! The frames of a phase.
-ghost use Rattle.std.specs.Prelude.{◌≡◌, ℕ, ◌<◌, ◌^◌, List, length, OnOk, false, true};
+ghost use Rattle.std.specs.Prelude.{◌≡◌, ℕ, List, OnOk, false, true, is_some};
 ghost use Rattle.capture_files.specs.Record.{Frame};
 ghost use Rattle.io_edges.specs.ShelfState.{ShelfState};
 ghost use Rattle.io_edges.specs.Lent.{KeepsSlot};
 ghost use Rattle.io_edges.specs.LentLaws.{KeepsSlot-none};
-ghost use Rattle.adapter.specs.Seen.{Enters};
-ghost use Rattle.adapter.specs.History.{passed_by};
-ghost use Rattle.whole_history.specs.Serial.{caller_at};
 ghost use Rattle.testpmd_shell.specs.Feed.{IsReady, HasRead, CarriesFault};
-ghost use Rattle.testpmd_shell.specs.Phase.{parcel_at, is_spent, one_less, Takes};
+ghost use Rattle.testpmd_shell.specs.Phase.{is_spent, one_less, Takes};
+ghost use Rattle.testpmd_shell.specs.Sending.{kept_in};
+ghost use Rattle.testpmd_shell.specs.Standing.{Stands};
 
 use crate::feed::{Feed, next_frame};
-use adapter::{Adapter, Caller, Parcel};
+use crate::lead::Lead;
 use io_edges::{Shelf, Slot};
-use packet_headers::parse;
 use std::alloc::AllocError;
-
-/// Enters the frame of that number and those captured bytes, by worker 0.
-fn pass(adapter: &mut Adapter, number: u32, frame: &[u8]) -> Result<(), AllocError>
-    requires { length frame.now < 2 ^ 32 }
-    ensures enters { OnOk result (Enters adapter.old adapter.new
-        (passed_by adapter.old.limits adapter.old.history (caller_at 9) (parcel_at number frame.now))) }
-    ensures limits { adapter.new.limits ≡ adapter.old.limits }
-{
-    let parcel = Parcel {
-        number,
-        key: parse(frame),
-        len: frame.len() as u32,
-    };
-    let verdict = adapter.verdict(&parcel.key);
-    adapter.packet(Caller::LEAD, &parcel, &verdict)
-}
 
 /// Whether a phase has taken all frames that it counts.
 fn spent(left: Option<u32>) -> bool
@@ -55,26 +37,29 @@ fn behind_one(left: Option<u32>) -> Option<u32>
 
 /// Lets `count` of the frames that remain pass, or all of them. A capture that stops early gives no further frames.
 pub(crate) fn pass_frames<S: Shelf>(
-    adapter: &mut Adapter,
+    lead: &mut Lead,
     feed: &mut Feed,
     shelf: &mut S,
     count: Option<u32>,
 ) -> Result<(), AllocError>
     requires ready { IsReady feed.old }
     requires opened { (S.state shelf.old).capture.opened ≡ true }
+    requires stands { Stands lead.old.adapter lead.old.replica }
     ensures ready { IsReady feed.new }
     ensures takes { OnOk result ((content : List ℕ) → (frames : List Frame) → HasRead feed.old (S.state shelf.old).capture content frames
-        → Takes count feed.old feed.new (S.state shelf.new).capture content frames adapter.old adapter.new) }
+        → Takes count feed.old feed.new (S.state shelf.new).capture content frames lead.old.adapter lead.new.adapter (kept_in lead.old) (kept_in lead.new)) }
     ensures fault { CarriesFault feed.old.ending feed.new.ending (S.state shelf.old).capture.faults (S.state shelf.new).capture.faults }
-    ensures limits { adapter.new.limits ≡ adapter.old.limits }
+    ensures stands { OnOk result (Stands lead.new.adapter lead.new.replica) }
+    ensures kept { OnOk result (is_some (kept_in lead.new) ≡ is_some (kept_in lead.old)) }
+    ensures limits { lead.new.adapter.limits ≡ lead.old.adapter.limits }
     ensures keeps { KeepsSlot Slot.Capture (S.state shelf.old) (S.state shelf.new) }
 {
     let mut left = count;
     while !feed.reader.ended() && !spent(left) {
-        let Some(len) = next_frame(feed, shelf) else {
+        let Some(arrived) = next_frame(feed, shelf) else {
             return Ok(());
         };
-        pass(adapter, feed.taken, &feed.buffer[..len])?;
+        lead.pass(feed.taken, arrived, &feed.buffer[..arrived.len])?;
         left = behind_one(left);
     }
     Ok(())

@@ -3,10 +3,10 @@ ghost use Rattle.std.specs.Prelude.{◌≡◌, map, option_copied, IfOk, IfSome}
 ghost use Rattle.std.specs.Option.{option_map};
 ghost use Rattle.clap.specs.Words.{first_of, found_of, rows_of};
 ghost use Rattle.testpmd_shell.specs.Options.{given_in, options_of, given_of};
-ghost use Rattle.adapter.specs.Sound.{AreLimits};
+ghost use Rattle.flow_rules.specs.Limits.{AreLimits};
 ghost use Rattle.testpmd_shell.specs.Found.{limits_of};
 
-use crate::command::{CAPTURE, CORES, QUEUES, RULES, SCRIPT, shell_command};
+use crate::command::{CAPTURE, CORES, QUEUES, RULES, SCRIPT, TRANSMIT, shell_command};
 use crate::numbers::{cores, queues, rules};
 use crate::options::Options;
 use clap::ArgMatches;
@@ -32,6 +32,7 @@ fn options_in<'a>(matches: &ArgMatches<'a>) -> Option<Options<'a>>
     Some(Options {
         script,
         capture: text_of(matches, CAPTURE),
+        transmit: text_of(matches, TRANSMIT),
         rxq,
         cores,
         flow_max,

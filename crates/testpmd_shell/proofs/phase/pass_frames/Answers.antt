@@ -1,4 +1,4 @@
-use Rattle.std.proofs.Common.{◌≡◌, [], ◌∷◌, ◌++◌, take, false, refl, sym, subst, ◌∙◌, inl, inr, rules, arith}
+use Rattle.std.proofs.Common.{ℕ, List, Option, None, Some, is_some, ap, ◌≡◌, [], ◌∷◌, ◌++◌, take, false, refl, sym, subst, ◌∙◌, inl, inr, rules, arith}
 use Rattle.io_edges.specs.declared.shelf.Slot.TheVariants.{Capture}
 use Rattle.io_edges.specs.LentLaws.{KeepsSlot-none}
 use Rattle.adapter.specs.Seen.{Grows}
@@ -6,14 +6,22 @@ use Rattle.adapter.specs.History.{passed_by}
 use Rattle.whole_history.specs.Serial.{caller_at}
 use Rattle.testpmd_shell.specs.Feed.{IsFaultOf}
 use Rattle.testpmd_shell.specs.Phase.{GoesOn, parcel_at}
+use Rattle.testpmd_shell.specs.Sending.{kept_in, flows_now, sent_by}
+use Rattle.std.specs.Io.KnownBytes.{append_known}
 use Rattle.testpmd_shell.proofs.Passing.{GoesOn-none, GoesOn-next, Takes-here, Takes-ended}
 use Rattle.testpmd_shell.proofs.phase.pass_frames.Goals as goal
+
+is_some-append : (old new : Option (List ℕ)) (bytes : List ℕ) → new ≡ append_known old bytes → is_some new ≡ is_some old
+is_some-append None new bytes e = ap is_some e
+is_some-append (Some xs) new bytes e = ap is_some e
 
 pub loop-left-init : goal.loop-left-init
 loop-left-init g c = record {
   ready = c.requires.ready;
   opened = c.requires.opened;
-  goes_on = λ content frames has. GoesOn-none c.args.count c.args.feed.now (g.S.Shelf.state c.args.shelf.now).capture content frames c.args.adapter.now has;
+  goes_on = λ content frames has. GoesOn-none c.args.count c.args.feed.now (g.S.Shelf.state c.args.shelf.now).capture content frames c.args.lead.now.adapter (kept_in c.args.lead.now) has;
+  stands = c.requires.stands;
+  kept = refl;
   same = refl;
   calm = refl;
   ending = refl;
@@ -25,7 +33,7 @@ pub returns-in_default-clause-takes : goal.returns-in_default-clause-takes
 returns-in_default-clause-takes g c content frames has =
     let go = c.loop-left.invariant.goes_on content frames has in
     Takes-ended c.args.count c.loop-left.left c.args.feed.now c.loop-left.feed c.next_frame.new.feed
-    (g.S.Shelf.state c.loop-left.shelf).capture (g.S.Shelf.state c.next_frame.new.shelf).capture content frames c.args.adapter.now c.loop-left.adapter
+    (g.S.Shelf.state c.loop-left.shelf).capture (g.S.Shelf.state c.next_frame.new.shelf).capture content frames c.args.lead.now.adapter c.loop-left.lead.adapter (kept_in c.args.lead.now) (kept_in c.loop-left.lead)
     go (sym c.if-not-spent.ensures) (c.in_default.ensures.reads content (frames ++ go.takes.more) go.takes.read) c.in_default.ensures.counts.0 c.in_default.ensures.counts.1
 
 pub loop-left-smaller : goal.loop-left-smaller
@@ -48,14 +56,19 @@ loop-left-preserved g c =
       opened = c.in-Some.ensures.keeps.opened ∙ c.loop-left.invariant.opened;
       goes_on = λ content frames has.
           let go = c.loop-left.invariant.goes_on content frames has in
-          let enters = subst (λ bytes. Grows c.loop-left.adapter c.pass.new.adapter
-          (passed_by c.loop-left.adapter.limits c.loop-left.adapter.history (caller_at 9) (parcel_at c.next_frame.new.feed.taken (take c.in-Some.len bytes)) ∷ []))
+          let enters = subst (λ bytes. Grows c.loop-left.lead.adapter c.pass.new.self.adapter
+          (passed_by c.loop-left.lead.adapter.limits c.loop-left.lead.adapter.history (caller_at 9) (parcel_at c.next_frame.new.feed.taken (take c.in-Some.arrived.len bytes)) ∷ []))
           c.deref.ensures.value c.in_ok-pass.ensures.enters in
-          subst (λ left. GoesOn c.args.count left c.args.feed.now c.next_frame.new.feed (g.S.Shelf.state c.next_frame.new.shelf).capture content frames c.args.adapter.now c.pass.new.adapter)
+          let sends = subst (λ bytes. kept_in c.pass.new.self ≡ append_known (kept_in c.loop-left.lead) (sent_by (flows_now c.loop-left.lead.adapter) c.in-Some.arrived (take c.in-Some.arrived.len bytes)))
+          c.deref.ensures.value c.in_ok-pass.ensures.kept in
+          subst (λ left. GoesOn c.args.count left c.args.feed.now c.next_frame.new.feed (g.S.Shelf.state c.next_frame.new.shelf).capture content frames c.args.lead.now.adapter c.pass.new.self.adapter (kept_in c.args.lead.now) (kept_in c.pass.new.self))
           (sym c.behind_one-left.ensures)
           (GoesOn-next c.args.count c.loop-left.left c.args.feed.now c.loop-left.feed c.next_frame.new.feed
-          (g.S.Shelf.state c.loop-left.shelf).capture (g.S.Shelf.state c.next_frame.new.shelf).capture content frames c.args.adapter.now c.loop-left.adapter c.pass.new.adapter c.in-Some.len
-          go started (sym c.if-not-spent.ensures) (c.in-Some.ensures.reads content (frames ++ go.takes.more) go.takes.read) counts.0 enters);
+          (g.S.Shelf.state c.loop-left.shelf).capture (g.S.Shelf.state c.next_frame.new.shelf).capture content frames c.args.lead.now.adapter c.loop-left.lead.adapter c.pass.new.self.adapter
+          (kept_in c.args.lead.now) (kept_in c.loop-left.lead) (kept_in c.pass.new.self) c.in-Some.arrived
+          go started (sym c.if-not-spent.ensures) (c.in-Some.ensures.reads content (frames ++ go.takes.more) go.takes.read) counts.0 enters sends);
+      stands = c.in_ok-pass.ensures.stands;
+      kept = is_some-append _ _ _ c.in_ok-pass.ensures.kept ∙ c.loop-left.invariant.kept;
       same = counts.2 ∙ sym started;
       calm = subst (λ ending. IsFaultOf ending (g.S.Shelf.state c.loop-left.shelf).capture.faults (g.S.Shelf.state c.next_frame.new.shelf).capture.faults) after c.in-Some.ensures.fault
           ∙ c.loop-left.invariant.calm;
@@ -67,11 +80,11 @@ loop-left-preserved g c =
 pub returns-else-not-spent-clause-takes : goal.returns-else-not-spent-clause-takes
 returns-else-not-spent-clause-takes g c content frames has =
     let go = c.loop-left.invariant.goes_on content frames has in
-    Takes-here c.args.count c.loop-left.left c.args.feed.now c.loop-left.feed (g.S.Shelf.state c.loop-left.shelf).capture content frames c.args.adapter.now c.loop-left.adapter
+    Takes-here c.args.count c.loop-left.left c.args.feed.now c.loop-left.feed (g.S.Shelf.state c.loop-left.shelf).capture content frames c.args.lead.now.adapter c.loop-left.lead.adapter (kept_in c.args.lead.now) (kept_in c.loop-left.lead)
     go c.loop-left.invariant.same (inr (sym c.if-not-spent.ensures))
 
 pub returns-after-loop-left-clause-takes : goal.returns-after-loop-left-clause-takes
 returns-after-loop-left-clause-takes g c content frames has =
     let go = c.loop-left.invariant.goes_on content frames has in
-    Takes-here c.args.count c.loop-left.left c.args.feed.now c.loop-left.feed (g.S.Shelf.state c.loop-left.shelf).capture content frames c.args.adapter.now c.loop-left.adapter
+    Takes-here c.args.count c.loop-left.left c.args.feed.now c.loop-left.feed (g.S.Shelf.state c.loop-left.shelf).capture content frames c.args.lead.now.adapter c.loop-left.lead.adapter (kept_in c.args.lead.now) (kept_in c.loop-left.lead)
     go c.loop-left.invariant.same (inl (sym c.loop-left-test.ensures))
