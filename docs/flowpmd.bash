@@ -16,7 +16,7 @@ _flowpmd() {
     fi
     COMPREPLY=()
     case $key in
-    --cmdline-file | --rx-pcap)
+    --cmdline-file | --rx-pcap | --tx-pcap)
         compopt -o filenames 2>/dev/null
         mapfile -t COMPREPLY < <(compgen -f -- "$value")
         ;;
@@ -25,7 +25,7 @@ _flowpmd() {
     --flow-max) mapfile -t COMPREPLY < <(compgen -W '1 64 1024 4096 65536' -- "$value") ;;
     *)
         local option given
-        for option in --cmdline-file= --rx-pcap= --rxq= --nb-cores= --flow-max=; do
+        for option in --cmdline-file= --rx-pcap= --tx-pcap= --rxq= --nb-cores= --flow-max=; do
             # each at most once
             given=" ${COMP_WORDS[*]:0:COMP_CWORD} "
             [[ ${given//=/ } == *" ${option%=} "* ]] || COMPREPLY+=("$option")
