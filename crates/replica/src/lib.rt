@@ -24,9 +24,9 @@
 //!
 //! **Bytes.** `specs/Rewritten` has the bytes of a frame behind its walk: each edit of the walk is done on the layers and on
 //! the bytes, one behind the other; the layers then are those with which the walk ended
-//! (`bytes_are_edited_as_the_layers_were`). The code walks once for the path. The edits of a walk are those of the rules on its path, in
-//! order, since no action that rules share is an edit (`edits_are_those_of_the_path`), so it looks each of these rules up and
-//! does its edits. Only a key is copied, and no header is found anew.
+//! (`bytes_are_edited_as_the_layers_were`). The edits of a walk are those of the rules on its path, in order, since no action that
+//! rules share is an edit (`edits_are_those_of_the_path`). So who knows a frame's verdict has it edited by `rewrite_by`, which
+//! looks each rule of the path up and does its edits: no rule is matched again, and no header is found anew.
 //!
 //! Rules are kept behind `rule_list`, which knows how the best of a group is found. `classify` and `rewrite` take no memory.
 //!

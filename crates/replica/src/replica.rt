@@ -81,7 +81,17 @@ impl Replica {
         requires { LieWithin 0 (length frame.old) key.now }
         ensures { frame.new ≡ rewritten self.now.flows key.now frame.old }
     {
-        rewrite(&self.flows, key, frame)
+        let verdict = self.classify(key);
+        self.rewrite_by(key, &verdict, frame);
+    }
+
+    /// Performs the edits of a frame's walk on its bytes, in order, where its verdict is known: no rule is matched again.
+    pub fn rewrite_by(&self, key: &Key, verdict: &Verdict, frame: &mut [u8])
+        requires walked { verdict.now ≡ verdict_of self.now.flows key.now }
+        requires within { LieWithin 0 (length frame.old) key.now }
+        ensures { frame.new ≡ rewritten self.now.flows key.now frame.old }
+    {
+        rewrite(&self.flows, key, verdict, frame)
     }
 }
 

@@ -2,22 +2,23 @@
 ghost use Rattle.std.specs.Prelude.{◌≡◌, length, fold, flat_map};
 ghost use Rattle.packet_headers.specs.Layers.{LieWithin};
 ghost use Rattle.flow_rules.specs.Valid.{IsFit};
+ghost use Rattle.flow_rules.specs.Walk.{verdict_of};
 ghost use Rattle.replica.specs.Path.{edits_by, edits_of, edits_at};
 ghost use Rattle.replica.specs.Rewritten.{frame_at, edited, rewritten};
 
 use crate::current_flows::CurrentFlows;
 use crate::rule_list::RuleList;
-use flow_actions::Action;
-use flow_rules::{Rule, classify};
+use flow_actions::{Action, Verdict};
+use flow_rules::Rule;
 use header_edit::{apply_frame, apply_key};
 use packet_headers::Key;
 
-/// Performs the edits of a frame's walk on its bytes, in order.
-pub(crate) fn rewrite(flows: &CurrentFlows, key: &Key, frame: &mut [u8])
-    requires { LieWithin 0 (length frame.old) key.now }
+/// Performs the edits of the walk that ends with this verdict on a frame's bytes, in order.
+pub(crate) fn rewrite(flows: &CurrentFlows, key: &Key, verdict: &Verdict, frame: &mut [u8])
+    requires walked { verdict.now ≡ verdict_of flows.now key.now }
+    requires within { LieWithin 0 (length frame.old) key.now }
     ensures { frame.new ≡ rewritten flows.now key.now frame.old }
 {
-    let verdict = classify(flows, key);
     let mut edited = *key;
     edit_by_path(flows.rules(), verdict.path.as_slice(), &mut edited, frame);
 }

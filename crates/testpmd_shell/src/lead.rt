@@ -5,6 +5,7 @@ ghost use Rattle.packet_headers.specs.Layers.{LieWithin};
 ghost use Rattle.adapter.specs.Seen.{Enters};
 ghost use Rattle.adapter.specs.History.{passed_by};
 ghost use Rattle.flow_rules.specs.Limits.{AreLimits};
+ghost use Rattle.flow_rules.specs.Walk.{verdict_of};
 ghost use Rattle.history_text.specs.Transmit.{delivered, record_behind};
 ghost use Rattle.whole_history.specs.Serial.{caller_at};
 ghost use Rattle.testpmd_shell.specs.Feed.{frame_in};
@@ -15,7 +16,7 @@ ghost use Rattle.testpmd_shell.specs.Standing.{Stands};
 use crate::feed::Arrived;
 use crate::sent::Sent;
 use adapter::{Adapter, Caller, Parcel};
-use flow_actions::Fate;
+use flow_actions::{Fate, Verdict};
 use flow_rules::Limits;
 use packet_headers::{Key, parse};
 use replica::Replica;
@@ -75,7 +76,7 @@ impl Lead {
             self.alloc,
             &self.replica,
             &mut self.kept,
-            verdict.fate,
+            &verdict,
             &parcel,
             arrived,
             frame,
@@ -102,24 +103,25 @@ fn keep(
     alloc: Global,
     replica: &Replica,
     kept: &mut Option<Vec<Sent>>,
-    fate: Fate,
+    verdict: &Verdict,
     parcel: &Parcel,
     arrived: Arrived,
     frame: &[u8],
 ) -> Result<(), AllocError>
+    requires walked { verdict.now ≡ verdict_of replica.now.flows parcel.now.key }
     requires within { LieWithin 0 (length frame.now) parcel.now.key }
     requires short { length frame.now ≤ 262_144 }
     ensures { OnOk result (records_kept kept.new ≡ append_known (records_kept kept.old)
-        (delivered fate replica.now.flows parcel.now.key (Some (frame_in arrived frame.now)))) }
+        (delivered verdict.now.fate replica.now.flows parcel.now.key (Some (frame_in arrived frame.now)))) }
 {
-    match fate {
+    match verdict.fate {
         Fate::Drop => return Ok(()),
         Fate::Queue(_) => {}
     }
     let Some(kept) = kept else {
         return Ok(());
     };
-    let sent = edited(alloc, replica, parcel, arrived, frame)?;
+    let sent = edited(alloc, replica, verdict, parcel, arrived, frame)?;
     kept.push(sent)?;
     Ok(())
 }
@@ -128,16 +130,18 @@ fn keep(
 fn edited(
     alloc: Global,
     replica: &Replica,
+    verdict: &Verdict,
     parcel: &Parcel,
     arrived: Arrived,
     frame: &[u8],
 ) -> Result<Sent, AllocError>
+    requires walked { verdict.now ≡ verdict_of replica.now.flows parcel.now.key }
     requires within { LieWithin 0 (length frame.now) parcel.now.key }
     requires short { length frame.now ≤ 262_144 }
     ensures { IfOk result (λ sent. record_of sent ≡ record_behind replica.now.flows parcel.now.key (frame_in arrived frame.now)) }
 {
     let mut bytes = Vec::from_slice(alloc, frame)?;
-    replica.rewrite(&parcel.key, &mut bytes);
+    replica.rewrite_by(&parcel.key, verdict, &mut bytes);
     Ok(Sent {
         number: parcel.number,
         wire_len: arrived.wire_len,

@@ -16,7 +16,7 @@ returns c =
     let path = c.as_slice.result.now in
     let edits_are : flat_map (edits_at c.rules.result.now) path ≡ (walk flows layers).edits
     = ap (λ (rules : List RuleView). flat_map (edits_at rules) path) c.rules.ensures.rules
-    ∙ ap (flat_map (edits_at flows.rules)) (c.as_slice.ensures.value ∙ ap (λ (v : Verdict). v.path.items) c.classify-verdict.ensures)
+    ∙ ap (flat_map (edits_at flows.rules)) (c.as_slice.ensures.value ∙ ap (λ (v : Verdict). v.path.items) c.requires.walked)
     ∙ sym (edits-by_path flows layers c.rules.ensures.own c.rules.ensures.shared) in
     ap (λ (frame : Frame). frame.bytes) c.edit_by_path.ensures
     ∙ ap (λ (list : List Edit). (fold edited (frame_at layers c.args.frame.now) list).bytes) edits_are
