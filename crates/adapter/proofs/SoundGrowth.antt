@@ -20,13 +20,13 @@ use Rattle.adapter.specs.declared.call.Op.TheVariants as ops
 use Rattle.flow_rules.specs.declared.counter.Counter.{Counter}
 use Rattle.flow_rules.specs.declared.counter.Counter.TheVariants as counters
 use Rattle.flow_rules.specs.declared.counter.Count.{Count}
-use Rattle.flow_rules.specs.Naming.{rule_at, namings_at, HaveOwnIds}
+use Rattle.flow_rules.specs.Naming.{rule_at, namings_at}
 use Rattle.flow_rules.specs.Shared.{shared_at}
 use Rattle.flow_rules.proofs.Namings.{named-by_path}
 use Rattle.adapter.specs.Counters.{zero_count, counted_more, is_counter, is_there, while_there, count_of}
 use Rattle.adapter.specs.Raising.{HasRoomFor}
 use Rattle.adapter.specs.Totals.{totals_of}
-use Rattle.adapter.specs.Standing.{Standing, standing_of}
+use Rattle.adapter.specs.Standing.{Standing, standing_of, Counts}
 use Rattle.adapter.specs.Reply.{answer_of, reply_to, reply_to_query, reply_to_shared_query}
 use Rattle.adapter.proofs.CountsGrowth.{count_of-push, count_of-nil}
 use Rattle.flow_rules.specs.OnPort.{IsBelow}
@@ -167,28 +167,25 @@ few-more n k len l l' longer short most few = (omega (arith, longer, most, few.0
 
 -- behind a frame that was entered and counted
 pub Sound-passed : (limits : Limits) (at at' : Standing) (h : List Entry) (caller : Caller) (parcel : Parcel) (v : Verdict)
-    → Sound limits at h → length h < 2 ^ 32 → parcel.len < 2 ^ 32 → HaveOwnIds (map rule_in at.state.rules)
-    → v ≡ verdict_of (flows_of (state_of limits h)) parcel.key → at'.state ≡ at.state → at'.totals ≡ counted at.totals v.fate
-    → ((c : Counter) → at'.count c ≡ counted_more (at.count c) (count_by (is_counter c) (flat_map (namings_at (flows_of at.state)) v.path.items)) parcel.len)
-    → length (flat_map (namings_at (flows_of at.state)) v.path.items) ≤ 256
+    → Sound limits at h → length h < 2 ^ 32 → v ≡ verdict_of (flows_of (state_of limits h)) parcel.key → Counts at at' v.path.items v.fate parcel.len
     → Sound limits at' (h ++ Passed caller parcel v ∷ [])
-Sound-passed limits at at' h caller parcel v sound more len own is state count counts few =
+Sound-passed limits at at' h caller parcel v sound more is by_frame =
     let e : Entry = Passed caller parcel v in
     let names = flat_map (namings_at (flows_of at.state)) v.path.items in
     let at_state : v ≡ verdict_of (flows_of at.state) parcel.key = is ∙ ap (λ (s : State). verdict_of (flows_of s) parcel.key) (sym sound.state) in
     let named : names ≡ counters_of (flows_of at.state) parcel.key
-    = ap (λ (w : Verdict). flat_map (namings_at (flows_of at.state)) w.path.items) at_state ∙ sym (named-by_path (flows_of at.state) parcel.key own) in
+    = ap (λ (w : Verdict). flat_map (namings_at (flows_of at.state)) w.path.items) at_state ∙ sym (named-by_path (flows_of at.state) parcel.key by_frame.own) in
     record {
       ranges = sound.ranges;
-      state = state ∙ sound.state ∙ sym (state_of-push limits h e);
-      totals = count ∙ ap (λ t. counted t v.fate) sound.totals ∙ totals_of-passed h caller parcel v (IsBelow-verdict limits h parcel.key v sound.ranges is);
-      counts = λ c. counts c
+      state = by_frame.state ∙ sound.state ∙ sym (state_of-push limits h e);
+      totals = by_frame.totals ∙ ap (λ t. counted t v.fate) sound.totals ∙ totals_of-passed h caller parcel v (IsBelow-verdict limits h parcel.key v sound.ranges is);
+      counts = λ c. by_frame.count c
           ∙ ap (λ ns. counted_more (at.count c) (count_by (is_counter c) ns) parcel.len) (named ∙ ap (λ (s : State). counters_of (flows_of s) parcel.key) sound.state)
           ∙ ap (λ n. counted_more n (count_by (is_counter c) (counters_of (flows_of (state_of limits h)) parcel.key)) parcel.len) (sound.counts c)
           ∙ sym (count_of-push limits h e c);
-      few = λ c. subst (λ (n : Count). (n.hits ≤ 256 * length (h ++ e ∷ [])) × (n.bytes ≤ 2 ^ 32 * n.hits)) (sym (counts c))
-          (few-more (at.count c) (count_by (is_counter c) names) parcel.len (length h) (length (h ++ e ∷ [])) (length-append h (e ∷ [])) len
-          (omega (arith, count_by-le-length (is_counter c) names, few)) (sound.few c));
+      few = λ c. subst (λ (n : Count). (n.hits ≤ 256 * length (h ++ e ∷ [])) × (n.bytes ≤ 2 ^ 32 * n.hits)) (sym (by_frame.count c))
+          (few-more (at.count c) (count_by (is_counter c) names) parcel.len (length h) (length (h ++ e ∷ [])) (length-append h (e ∷ [])) by_frame.short
+          (omega (arith, count_by-le-length (is_counter c) names, by_frame.few)) (sound.few c));
       legal = IsLegalBehind-push limits [] h e sound.legal is;
       short = omega (arith, length-append h (e ∷ []));
     }

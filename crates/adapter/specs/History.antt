@@ -1,5 +1,5 @@
 -- A legal history: each call has the reply, and each frame the verdict, that the entries before it give.
-use Rattle.std.specs.Prelude.{◌≡◌, List, [], ◌∷◌, ◌++◌}
+use Rattle.std.specs.Prelude.{◌≡◌, ◌≤◌, List, [], ◌∷◌, ◌++◌}
 use Rattle.flow_rules.specs.declared.limits.Limits.{Limits}
 use Rattle.adapter.specs.declared.caller.Caller.{Caller}
 use Rattle.adapter.specs.declared.call.Call.{Call}
@@ -30,3 +30,9 @@ asked_by limits before caller call = Asked caller call (reply_to limits before c
 -- the entry that a frame makes behind a history
 abbrev pub passed_by : Limits → List Entry → Caller → Parcel → Entry
 passed_by limits before caller parcel = Passed caller parcel (verdict_of (flows_of (state_of limits before)) parcel.key)
+
+-- the entry is a frame that a packet worker let pass behind a history, with the verdict that the history gives
+abbrev pub IsFrame : Limits → List Entry → Entry → Type 0
+IsFrame limits before (Asked caller call reply) = ⊥
+IsFrame limits before (Passed caller parcel verdict) =
+    (9 ≤ caller.0) × (caller.0 ≤ 24) × (verdict ≡ verdict_of (flows_of (state_of limits before)) parcel.key)

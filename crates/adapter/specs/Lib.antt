@@ -15,6 +15,7 @@ pub mod Reply
 pub mod Rows
 pub mod Seen
 pub mod Sound
+pub mod Spare
 pub mod Standing
 pub mod State
 pub mod StateInside

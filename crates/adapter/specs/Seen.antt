@@ -5,11 +5,13 @@ use Rattle.adapter.specs.declared.entry.EntryView.{EntryView}
 use Rattle.adapter.specs.declared.entry.EntryView.TheVariants as views
 use Rattle.adapter.specs.declared.entry.Entry.{Entry}
 use Rattle.adapter.specs.declared.entry.Entry.TheVariants.{Asked, Passed}
+use Rattle.adapter.specs.declared.spare.Spare.{Spare}
 
--- its limits and its history
+-- its limits, its history, and for how many more entries room was taken ahead
 pub record Seen : Type 0 where
   pub limits : Limits
   pub history : List Entry
+  pub spare : Spare
 
 -- the entry that a view shows
 abbrev pub entry_of : EntryView → Entry
@@ -25,7 +27,8 @@ pub record Grows (old new : Seen) (entries : List Entry) : Type 0 where
 abbrev pub Enters : Seen → Seen → Entry → Type 0
 Enters old new entry = Grows old new (entry ∷ [])
 
--- the history and its limits are as they were
+-- all is as it was
 pub record Stays (old new : Seen) : Type 0 where
   pub limits : new.limits ≡ old.limits
   pub history : new.history ≡ old.history
+  pub spare : new.spare ≡ old.spare

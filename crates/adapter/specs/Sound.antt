@@ -26,7 +26,7 @@ pub record Sound (limits : Limits) (at : Standing) (history : List Entry) : Type
   pub short : length history ≤ 2 ^ 32
 
 abbrev pub view_of : Inside → Seen
-view_of a = record { limits = a.limits; history = a.history.entries }
+view_of a = record { limits = a.limits; history = a.history.entries; spare = a.history.spare }
 
 -- the list has the changes of the history, and no rule among them has more than 16 actions
 pub record AreTold (limits : Limits) (history : List Entry) (list : List Change) : Type 0 where

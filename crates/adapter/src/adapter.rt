@@ -1,18 +1,19 @@
 //! The adapter: the rules in effect, and the history of all that was asked and of all frames that passed.
-ghost use Rattle.std.specs.Prelude.{◌≡◌, ◌+◌, ◌<◌, ◌≤◌, ◌^◌, [], ◌∷◌, ◌++◌, length, drop, fold, slice_get, All, Some, IfOk, OnOk, OnErr};
+ghost use Rattle.std.specs.Prelude.{◌≡◌, ◌+◌, ◌<◌, ◌≤◌, ◌^◌, [], ◌∷◌, ◌++◌, true, length, drop, fold, slice_get, is_ok, All, Some, IfOk, OnOk, OnErr};
 ghost use Rattle.adapter.specs.declared.entry.Entry.TheVariants.{Asked, Passed};
-ghost use Rattle.adapter.specs.Seen.{Enters, Stays, entry_of};
+ghost use Rattle.adapter.specs.Seen.{Enters, Grows, Stays, entry_of};
+ghost use Rattle.adapter.specs.Spare.{no_spare, TakesFrames, TakesLine, Widens};
 
 use crate::call::Call;
 use crate::caller::Caller;
 use crate::change_list::ChangeList;
-use crate::count::count;
 use crate::entry::EntryView;
 use crate::history::History;
 use crate::kept::keep_call;
 use crate::outcome::{Judged, judge};
 use crate::parcel::Parcel;
 use crate::reply::{Reply, Totals};
+use crate::spare::Spare;
 use crate::standing::Standing;
 use crate::state::State;
 use flow_actions::Verdict;
@@ -21,13 +22,10 @@ use packet_headers::Key;
 use std::alloc::{AllocError, Global};
 use std::marker::Model;
 
-/// The most entries of a history.
-const MAX_ENTRIES: usize = 4_294_967_296;
-
 /// The plain one-thread adapter.
 ///
-/// Contracts see its limits and its history, which is always legal: each call has the reply, and each frame the
-/// verdict, that the entries before it give.
+/// Contracts see its limits, its history, and for how many more entries room was taken ahead. The history is always legal: each call
+/// has the reply, and each frame the verdict, that the entries before it give.
 #[derive(Drop)]
 pub struct Adapter {
     limits: Limits,
@@ -65,7 +63,7 @@ impl Adapter {
     /// An adapter without rules, whose history is empty.
     pub fn new(alloc: Global, limits: Limits) -> Result<Adapter, AllocError>
         requires { AreLimits limits }
-        ensures { IfOk result (λ adapter. adapter ≡ record { limits = limits; history = [] }) }
+        ensures { IfOk result (λ adapter. adapter ≡ record { limits = limits; history = []; spare = no_spare }) }
     {
         Ok(Adapter {
             limits,
@@ -83,6 +81,27 @@ impl Adapter {
         })
     }
 
+    /// Takes memory ahead, so that there is room for at least so many lines and frames.
+    ///
+    /// The history has at most 2^32 entries with those that room was taken for; what would pass this is want of memory. Want of memory
+    /// leaves the adapter as it was.
+    pub fn reserve(&mut self, lines: u32, frames: u32) -> Result<(), AllocError>
+        ensures limits { self.new.limits ≡ self.old.limits }
+        ensures history { self.new.history ≡ self.old.history }
+        ensures spare { OnOk result (Widens lines frames self.old.spare self.new.spare) }
+        ensures err { OnErr result (Stays self.old self.new) }
+    {
+        self.history.reserve(lines, frames)
+    }
+
+    /// For how many lines and frames there is room that was taken ahead.
+    pub fn spare(&self) -> Spare
+        ensures spare { result ≡ self.now.spare }
+        ensures short { length self.now.history + result.lines + result.frames ≤ 2 ^ 32 }
+    {
+        self.history.spare()
+    }
+
     /// Carries out a call of the shell or of an agent, enters it with its reply, and answers the reply.
     ///
     /// Want of memory leaves the adapter as it was.
@@ -90,14 +109,12 @@ impl Adapter {
         requires { caller.0 ≤ 8 }
         ensures entered { IfOk result (λ reply. Enters self.old self.new (Asked caller call.now reply)) }
         ensures reply { IfOk result (λ reply. reply ≡ reply_to self.old.limits self.old.history call.now.op) }
+        ensures spare { OnOk result (TakesLine self.old.spare self.new.spare) }
         ensures err { OnErr result (Stays self.old self.new) }
     {
-        if self.history.len() >= MAX_ENTRIES {
-            return Err(AllocError);
-        }
         self.standing.state.reserve()?;
         self.changes.reserve()?;
-        self.history.reserve()?;
+        self.history.make_room_for_line()?;
         let Judged {
             reply,
             effect,
@@ -107,13 +124,13 @@ impl Adapter {
         let entry = keep_call(self.alloc, caller, call, kept)?;
         self.standing.state.carry_out(&self.limits, effect)?;
         self.changes.add(change);
-        self.history.add(entry);
+        self.history.add_line(entry);
         Ok(reply)
     }
 
     /// Enters a frame that passed by a packet worker, with the verdict of the rules in effect.
     ///
-    /// Want of memory leaves the adapter as it was.
+    /// Where room was taken ahead, this takes no memory. Want of memory leaves the adapter as it was.
     pub fn packet(
         &mut self,
         caller: Caller,
@@ -123,16 +140,13 @@ impl Adapter {
         requires worker { (9 ≤ caller.0) × (caller.0 ≤ 24) }
         requires verdict { verdict.now ≡ verdict_of (flows_of (state_of self.old.limits self.old.history)) parcel.now.key }
         ensures entered { OnOk result (Enters self.old self.new (Passed caller parcel.now verdict.now)) }
+        ensures spare { OnOk result (TakesFrames 1 self.old.spare self.new.spare) }
+        ensures ready { 1 ≤ self.old.spare.frames → is_ok result ≡ true }
         ensures err { OnErr result (Stays self.old self.new) }
     {
-        if self.history.len() >= MAX_ENTRIES {
-            return Err(AllocError);
-        }
         self.history.add_frame(caller, parcel, verdict)?;
         self.standing
-            .state
-            .raise(verdict.path.as_slice(), parcel.len);
-        count(&mut self.standing.totals, verdict.fate);
+            .count_frame(verdict.path.as_slice(), verdict.fate, parcel.len);
         Ok(())
     }
 

@@ -12,6 +12,7 @@ ghost use Rattle.adapter.specs.declared.entry.Entry.TheVariants.{Asked, Passed};
 ghost use Rattle.adapter.specs.Kept.{entry_kept, entry_with, stack_key, ids_of, IsHead, IsPlain};
 
 mod shown;
+mod stock;
 
 use crate::call::Call;
 use crate::caller::Caller;
@@ -22,6 +23,7 @@ use flow_actions::{Fate, MAX_PATH, Verdict};
 use packet_headers::{Ipv4, Key, Network, Stack, Tags, Transport};
 pub(crate) use shown::show;
 use std::alloc::{AllocError, Global};
+pub(crate) use stock::{fill_stock, keep_in_stock};
 
 /// A call and its reply.
 #[derive(Drop)]

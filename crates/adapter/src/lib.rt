@@ -1,7 +1,8 @@
 //! The plain one-thread adapter: the rules in effect with the actions that they share, templates and tables, and the history of
 //! all that was asked and all that passed.
 //!
-//! Its model in one sentence: an adapter is its limits and its history, a list of entries that is always legal.
+//! Its model in one sentence: an adapter is its limits, its history, a list of entries that is always legal, and how much room for
+//! more entries was taken ahead.
 //!
 //! The problem. A port takes calls that change its rules, and frames that these rules judge. Whoever reads what it did
 //! wants to know that each reply and each verdict is the one that was due at that moment.
@@ -20,8 +21,11 @@
 //!
 //! Between calls the history only grows. A call that meets want of memory leaves the adapter as it was: `step` and
 //! `packet` take what they need before they change anything: a call is judged first (its reply, and what it does), its entry
-//! is made, and carrying it out is the last step that can want memory; behind it the entry is put into the history. A history has at most 2^32 entries; the call that would pass
-//! this answers want of memory.
+//! is made, and carrying it out is the last step that can want memory; behind it the entry is put into the history.
+//!
+//! Memory can be taken ahead: `reserve` makes room for lines and frames, and `spare` tells what is left of it. Where a frame is spare,
+//! `packet` takes no memory and can't fail. A line takes room for one line at most, a frame for one frame, and nothing else takes
+//! any. A history has at most 2^32 entries with those that are spare; the call that would pass this answers want of memory.
 //!
 //! What packets see changes with some calls alone. These changes are kept in a list beside the history (`specs/Changes`), so that a
 //! replica can follow: its version is the number of changes that it has seen, and `changes_from` lends it the others.
@@ -55,6 +59,7 @@ mod parcel;
 mod raising;
 mod reply;
 mod rows;
+mod spare;
 mod standing;
 mod state;
 mod template_calls;
@@ -71,3 +76,4 @@ pub use laws::{
 pub use parcel::Parcel;
 pub use reply::{Reply, Totals};
 pub use rows::{ListRow, RuleList};
+pub use spare::Spare;

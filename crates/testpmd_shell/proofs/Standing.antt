@@ -11,6 +11,7 @@ use Rattle.replica.specs.Caught.{ReplicaView, caught_up}
 use Rattle.adapter.specs.declared.entry.Entry.{Entry}
 use Rattle.adapter.specs.Changes.{changes_behind, changes_of, flows_at}
 use Rattle.adapter.specs.Seen.{Seen, Grows}
+use Rattle.adapter.specs.Spare.{no_spare}
 use Rattle.adapter.specs.State.{flows_of, opening, state_of}
 use Rattle.adapter.proofs.ChangesTold.{changes_of-append, flows_of-changes}
 use Rattle.testpmd_shell.specs.Sending.{flows_now}
@@ -79,5 +80,5 @@ Stands-caught adapter replica after version list same stands left is =
     }
 
 -- before the run
-pub Stands-start : (limits : Limits) → Stands (record { limits = limits; history = [] }) (record { limits = limits; version = 0; flows = flows_of (opening limits) })
+pub Stands-start : (limits : Limits) → Stands (record { limits = limits; history = []; spare = no_spare }) (record { limits = limits; version = 0; flows = flows_of (opening limits) })
 Stands-start limits = record { limits = refl; behind = omega arith; flows = refl }

@@ -4,6 +4,7 @@ ghost use Rattle.std.specs.Io.KnownBytes.{append_known};
 ghost use Rattle.packet_headers.specs.Layers.{LieWithin};
 ghost use Rattle.adapter.specs.Seen.{Enters};
 ghost use Rattle.adapter.specs.History.{passed_by};
+ghost use Rattle.adapter.specs.Spare.{no_spare};
 ghost use Rattle.flow_rules.specs.Limits.{AreLimits};
 ghost use Rattle.flow_rules.specs.Walk.{verdict_of};
 ghost use Rattle.history_text.specs.Transmit.{delivered, record_behind};
@@ -35,7 +36,7 @@ impl Lead {
     /// A lead worker before the run, which keeps frames or doesn't.
     pub(crate) fn new(alloc: Global, limits: Limits, keeps: bool) -> Result<Lead, AllocError>
         requires { AreLimits limits }
-        ensures adapter { IfOk result (λ lead. lead.adapter ≡ record { limits = limits; history = [] }) }
+        ensures adapter { IfOk result (λ lead. lead.adapter ≡ record { limits = limits; history = []; spare = no_spare }) }
         ensures stands { IfOk result (λ lead. Stands lead.adapter lead.replica) }
         ensures kept { IfOk result (λ lead. kept_in lead ≡ (if keeps then Some [] else None)) }
     {

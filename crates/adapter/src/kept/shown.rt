@@ -3,7 +3,7 @@ ghost use Rattle.std.specs.Prelude.{◌≡◌};
 ghost use Rattle.adapter.specs.Seen.{entry_of};
 ghost use Rattle.adapter.specs.Kept.{entry_kept, entry_with, plain_key, stack_key, verdict_in, ids_of};
 
-use super::{Head, Kept, Long, Plain, Steps};
+use super::{Head, Kept, Plain, Steps};
 use crate::entry::EntryView;
 use crate::parcel::Parcel;
 use arrayvec::ArrayVec;
@@ -25,8 +25,8 @@ pub(crate) fn show(kept: &Kept) -> EntryView<'_>
         Kept::Keyed(head, key) => show_frame(head, **key),
         Kept::Long(long) => EntryView::Passed {
             caller: long.caller,
-            parcel: long.parcel(),
-            verdict: long.verdict(),
+            parcel: same_parcel(&long.parcel),
+            verdict: same_verdict(&long.verdict),
         },
     }
 }
@@ -79,6 +79,29 @@ fn copy_of(path: &ArrayVec<u32, MAX_PATH>) -> ArrayVec<u32, MAX_PATH>
     copy
 }
 
+/// The same frame.
+pub(super) fn same_parcel(parcel: &Parcel) -> Parcel
+    ensures { result ≡ parcel.now }
+{
+    Parcel {
+        number: parcel.number,
+        key: parcel.key,
+        len: parcel.len,
+    }
+}
+
+/// The same verdict.
+pub(super) fn same_verdict(verdict: &Verdict) -> Verdict
+    ensures { result ≡ verdict.now }
+{
+    Verdict {
+        fate: verdict.fate,
+        mark: verdict.mark,
+        hash: verdict.hash,
+        path: copy_of(&verdict.path),
+    }
+}
+
 impl Head {
     /// The frame, which has this key.
     fn parcel(&self, key: Key) -> Parcel
@@ -119,28 +142,5 @@ impl Plain {
             tags: Tags::None,
             transport: self.transport,
         })
-    }
-}
-
-impl Long {
-    fn parcel(&self) -> Parcel
-        ensures { result ≡ self.now.parcel }
-    {
-        Parcel {
-            number: self.parcel.number,
-            key: self.parcel.key,
-            len: self.parcel.len,
-        }
-    }
-
-    fn verdict(&self) -> Verdict
-        ensures { result ≡ self.now.verdict }
-    {
-        Verdict {
-            fate: self.verdict.fate,
-            mark: self.verdict.mark,
-            hash: self.verdict.hash,
-            path: copy_of(&self.verdict.path),
-        }
     }
 }

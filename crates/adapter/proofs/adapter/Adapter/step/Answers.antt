@@ -62,13 +62,13 @@ invariant_of-self-2 c =
     let inside = c.self.inside in
     let op = c.args.call.now.op in
     let at = standing_kept inside.standing in
-    let more : length inside.history.entries < 2 ^ 32 = omega arith in
+    let more : length inside.history.entries < 2 ^ 32 = omega (arith, ap length c.make_room_for_line.ensures.entries, c.in_ok-make_room_for_line.ensures.ready.short) in
     let kept : c.in_ok-kept.kept ≡ c.in_ok-reply.field-0.reply = search rules in
     let given : c.in_ok-kept.kept ≡ answer_of inside.limits at op
     = kept ∙ c.in_ok-reply.ensures.reply ∙ replied inside.limits at c.reserve.new.self op c.reserve.ensures.state c.reserve.ensures.counts in
     let at' : Standing = record { state = state_in c.carry_out.new.self; totals = at.totals; count = count_in c.carry_out.new.self } in
-    let entry : c.add-2.new.self.entries ≡ inside.history.entries ++ Asked c.args.caller c.args.call.now (answer_of inside.limits at op) ∷ []
-    = c.add-2.ensures ∙ ap (λ (l : List Entry). l ++ entry_kept c.in_ok-entry.entry ∷ []) c.reserve-3.ensures.same
+    let entry : c.add_line.new.self.entries ≡ inside.history.entries ++ Asked c.args.caller c.args.call.now (answer_of inside.limits at op) ∷ []
+    = c.add_line.ensures.entries ∙ ap (λ (l : List Entry). l ++ entry_kept c.in_ok-entry.entry ∷ []) c.make_room_for_line.ensures.entries
     ∙ ap (λ (x : Entry). inside.history.entries ++ x ∷ []) (c.in_ok-entry.ensures ∙ ap (λ (r : Reply). Asked c.args.caller c.args.call.now r) given) in (
       subst (λ (h : List Entry). Sound inside.limits at' h) (sym entry)
           (Sound-asked inside.limits at at' inside.history.entries c.args.caller c.args.call.now c.self.invariant.0 more
