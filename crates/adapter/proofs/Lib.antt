@@ -1,3 +1,4 @@
+pub mod Bursts
 pub mod Carried
 pub mod ChangesTold
 pub mod CountsGrowth

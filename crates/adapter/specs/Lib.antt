@@ -10,6 +10,7 @@ pub mod HistoryInside
 pub mod Kept
 pub mod KeptHistory
 pub mod KeptState
+pub mod PackedInside
 pub mod Raising
 pub mod Reply
 pub mod Rows
@@ -20,4 +21,5 @@ pub mod Standing
 pub mod State
 pub mod StateInside
 pub mod Tables
+pub mod Tallies
 pub mod Totals

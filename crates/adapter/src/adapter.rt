@@ -11,6 +11,7 @@ use crate::entry::EntryView;
 use crate::history::History;
 use crate::kept::keep_call;
 use crate::outcome::{Judged, judge};
+use crate::packed::Packed;
 use crate::parcel::Parcel;
 use crate::reply::{Reply, Totals};
 use crate::spare::Spare;
@@ -54,7 +55,7 @@ impl Adapter {
     ghost use Rattle.adapter.specs.Changes.{HasFewActions, changes_of, flows_at};
     ghost use Rattle.adapter.specs.Totals.{totals_of};
     ghost use Rattle.adapter.specs.Reply.{reply_to};
-    ghost use Rattle.adapter.specs.History.{IsLegal};
+    ghost use Rattle.adapter.specs.History.{IsFrame, IsLegal};
     ghost use Rattle.flow_rules.specs.Walk.{verdict_of};
     ghost use Rattle.flow_rules.specs.Changes.{changed};
     ghost use Rattle.flow_rules.specs.Lawful.{AreLawful};
@@ -147,6 +148,25 @@ impl Adapter {
         self.history.add_frame(caller, parcel, verdict)?;
         self.standing
             .count_frame(verdict.path.as_slice(), verdict.fate, parcel.len);
+        Ok(())
+    }
+
+    /// Enters frames that passed by packet workers, in order, each with the verdict of the rules in effect.
+    ///
+    /// Room for all of them is taken first, beside what is spare. So want of memory leaves the adapter as it was, and no entry stays behind.
+    pub fn burst(&mut self, frames: Vec<Packed>) -> Result<(), AllocError>
+        requires { All (IsFrame self.old.limits self.old.history) frames.items }
+        ensures entered { OnOk result (Grows self.old self.new frames.items) }
+        ensures spare { self.new.spare ≡ self.old.spare }
+        ensures err { OnErr result (Stays self.old self.new) }
+    {
+        self.history.make_room(frames.len() as u64)?;
+        for packed in frames {
+            let tally = packed.tally();
+            self.standing
+                .count_frame(tally.path.as_slice(), tally.fate, tally.bytes);
+            self.history.add(packed.into_kept());
+        }
         Ok(())
     }
 

@@ -13,6 +13,7 @@ ghost use Rattle.adapter.specs.Kept.{entry_kept, entry_with, stack_key, ids_of, 
 
 mod shown;
 mod stock;
+mod tallies;
 
 use crate::call::Call;
 use crate::caller::Caller;
@@ -24,6 +25,7 @@ use packet_headers::{Ipv4, Key, Network, Stack, Tags, Transport};
 pub(crate) use shown::show;
 use std::alloc::{AllocError, Global};
 pub(crate) use stock::{fill_stock, keep_in_stock};
+pub(crate) use tallies::{Tally, tally_of};
 
 /// A call and its reply.
 #[derive(Drop)]

@@ -23,6 +23,9 @@
 //! `packet` take what they need before they change anything: a call is judged first (its reply, and what it does), its entry
 //! is made, and carrying it out is the last step that can want memory; behind it the entry is put into the history.
 //!
+//! Whoever holds the adapter for a short turn packs its frames before (`Packed`) and enters them by one call, `burst`: it takes room for
+//! all of them first, so that want of memory leaves no entry behind, and each frame is then moved into the history and counted.
+//!
 //! Memory can be taken ahead: `reserve` makes room for lines and frames, and `spare` tells what is left of it. Where a frame is spare,
 //! `packet` takes no memory and can't fail. A line takes room for one line at most, a frame for one frame, and nothing else takes
 //! any. A history has at most 2^32 entries with those that are spare; the call that would pass this answers want of memory.
@@ -55,6 +58,7 @@ mod kept;
 mod laws;
 mod listing;
 mod outcome;
+mod packed;
 mod parcel;
 mod raising;
 mod reply;
@@ -73,6 +77,7 @@ pub use laws::{
     changes_are_lawful, changes_are_what_packets_see, changes_begin_with_those_of_a_front,
     equal_changes_give_equal_flows, frames_change_nothing,
 };
+pub use packed::Packed;
 pub use parcel::Parcel;
 pub use reply::{Reply, Totals};
 pub use rows::{ListRow, RuleList};

@@ -53,7 +53,7 @@ fn key_with(stack: &Stack) -> Key
 }
 
 /// The ids of a short way as a list.
-fn path_of(steps: Steps) -> ArrayVec<u32, MAX_PATH>
+pub(super) fn path_of(steps: Steps) -> ArrayVec<u32, MAX_PATH>
     ensures { result.items ≡ ids_of steps }
 {
     let mut path = ArrayVec::new();
@@ -69,7 +69,7 @@ fn path_of(steps: Steps) -> ArrayVec<u32, MAX_PATH>
 }
 
 /// The same ids.
-fn copy_of(path: &ArrayVec<u32, MAX_PATH>) -> ArrayVec<u32, MAX_PATH>
+pub(super) fn copy_of(path: &ArrayVec<u32, MAX_PATH>) -> ArrayVec<u32, MAX_PATH>
     ensures { result.items ≡ path.now.items }
 {
     let mut copy = ArrayVec::new();
