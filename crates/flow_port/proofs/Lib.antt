@@ -1,0 +1,4 @@
+pub mod Owning
+pub mod Asking
+pub mod Closing
+pub mod Making

@@ -1,0 +1,4 @@
+pub mod Owners
+pub mod Calls
+pub mod Holding
+pub mod Ports

@@ -1,0 +1,13 @@
+//! The port: an adapter in a book.
+mod calls;
+mod ends;
+mod turns;
+
+use crate::held::Held;
+use turn_book::Book;
+
+/// An adapter that several callers use in turns.
+#[derive(Drop)]
+pub struct FlowPort {
+    pub(crate) book: Book<Held>,
+}
