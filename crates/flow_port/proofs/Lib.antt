@@ -2,3 +2,5 @@ pub mod Owning
 pub mod Asking
 pub mod Closing
 pub mod Making
+pub mod Standing
+pub mod Passing

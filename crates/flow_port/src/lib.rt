@@ -5,13 +5,14 @@
 //! that was due at its place.
 //!
 //! ```text
-//! let (port, mut seats) = FlowPort::new(alloc, adapter, &[Caller(0), Caller(1)])?;
-//! let mut agent = seats.pop().unwrap();                       // caller 1
-//! let mut shell = seats.pop().unwrap();                       // caller 0
-//! port.call(&rt, &mut shell, &create)                         // on a thread: Created(0)
-//! port.call(&rt, &mut agent, &query)                          // on another: it sees the rule
-//! seats.push(shell); seats.push(agent);
-//! port.close(seats).entries()                                 // 2
+//! let (port, mut seats) = FlowPort::new(alloc, adapter, &[Caller(0), Caller(9)])?;
+//! let mut worker = seats.pop().unwrap();                       // caller 9
+//! let mut shell = seats.pop().unwrap();                        // caller 0
+//! port.call(&rt, &mut shell, &create)                          // on a thread: Created(0)
+//! verdicts.push(replica.classify(&parcels[0].key));            // on another, before its turn
+//! port.burst(&rt, &mut worker, &mut replica, &parcels, &mut verdicts)    // it passes by the new rule
+//! seats.push(shell); seats.push(worker);
+//! port.close(seats).entries()                                  // 2
 //! ```
 //!
 //! The naive answer gives each caller an adapter of its own, and joins the lists of entries at the end. Then a caller never sees
@@ -23,6 +24,10 @@
 //!
 //! - `call`: what the seat has seen is legal, begins with what it had seen, and ends with this call and the reply that was
 //!   answered; the seat's own entries are what they were, and this one. Behind want of memory there is no entry of the call.
+//! - `burst`: the same with an entry for each frame, in order, with the verdicts that it hands out. A worker classifies its frames on
+//!   a replica of its own, which stands in a front of what its seat has seen, and they are packed before the turn. In the turn versions
+//!   are compared; only where rules changed since does the replica catch up, and the frames are classified and packed again. Then
+//!   all of them are entered by one call. Behind want of memory no frame has an entry, and there are no verdicts.
 //! - `close`: the adapter has the limits that it came with, and a legal history that begins with the one that it came with
 //!   and with all that each seat has seen. Behind that opening each caller's entries are its seat's own ones, in order, and no
 //!   other caller has an entry.
@@ -31,9 +36,10 @@
 //! caller in the list that the port was made with. What the entries of a seat are (`mine`) is a word of this crate, and
 //! nothing above looks inside.
 //!
-//! Each call costs a turn, whatever it answers. Nothing is said of when a turn comes.
+//! Each call and each burst costs a turn, whatever it answers. Nothing is said of when a turn comes.
 #![tactic(auto)]
 
+mod frames;
 mod held;
 mod port;
 mod seat;

@@ -43,7 +43,7 @@ impl FlowPort {
         };
         match Book::new(alloc, held, callers.len() as u32) {
             Ok((book, seats)) => Ok((
-                FlowPort { book },
+                FlowPort { alloc, book },
                 PortSeats {
                     seats,
                     callers: known,
@@ -68,7 +68,7 @@ impl FlowPort {
         ensures all { All (λ c. Contains (map (λ s. (whose s).0) (seats_in seats)) c.0) (callers_of self) }
     {
         let PortSeats { seats, callers: _ } = seats;
-        let FlowPort { book } = self;
+        let FlowPort { alloc: _, book } = self;
         let Held {
             adapter,
             callers: _,

@@ -10,7 +10,7 @@ use Rattle.flow_port.proofs.port.FlowPort.new.Goals as goal
 
 pub returns-in-Ok-clause-fresh : goal.returns-in-Ok-clause-fresh
 returns-in-Ok-clause-fresh c =
-    let port : FlowPort = record { book = c.in-Ok.book } in
+    let port : FlowPort = record { alloc = c.args.alloc; book = c.in-Ok.book } in
     let known : c.loop-caller.known.items ≡ c.args.callers.now = c.loop-caller.invariant.known ∙ take_all c.loop-caller.caller-index c.args.callers.now (omega arith) in
     let kept : callers_of port ≡ c.args.callers.now = ap (λ h. h.callers.items) c.in-Ok.ensures.book.0 ∙ (c.loop-caller.invariant.kept ∙ take_all c.loop-caller.caller-index c.args.callers.now (omega arith)) in
     let bs = book_seats.seats_in c.in-Ok.seats in
