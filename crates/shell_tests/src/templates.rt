@@ -1,5 +1,6 @@
 //! Templates and tables.
-use crate::run::{SCRIPT_ALONE, Told, expect_told};
+use crate::run::{Row, SCRIPT_ALONE, Told, expect, expect_told};
+use std::alloc::{AllocError, Global};
 
 const ROWS: [Told<'static>; 6] = [
     (
@@ -159,4 +160,50 @@ total received 0 dropped 0 queues 0
 #[test]
 fn templates_and_tables_are_made_and_destroyed(rt: HostRuntime) {
     expect_told(&rt, rt.alloc(), &ROWS);
+}
+
+/// A kind of template: a line that makes one, a line that destroys that of id 5, and its name in replies.
+const KINDS: [(&str, &str, &str); 2] = [
+    (
+        "flow pattern_template 0 create ingress template eth / end\n",
+        "flow pattern_template 0 destroy pattern_template 5\n",
+        "Pattern template",
+    ),
+    (
+        "flow actions_template 0 create ingress template drop / end mask drop / end\n",
+        "flow actions_template 0 destroy actions_template 5\n",
+        "Actions template",
+    ),
+];
+
+/// A script that makes 65 templates of a kind, destroys that of id 5, and makes another; and its transcript.
+fn more_than_64(
+    alloc: Global,
+    create: &str,
+    destroy: &str,
+    name: &str,
+) -> Result<(String, String), AllocError> {
+    let mut script = String::new(alloc);
+    let mut transcript = String::new(alloc);
+    for id in 0..64 {
+        let line = id + 1;
+        script.push_str(create)?;
+        transcript.push_str(&format!(in alloc; "shell {line}.1: {name} #{id} created\n")?)?;
+    }
+    script.push_str(&format!(in alloc; "{create}{destroy}{create}")?)?;
+    transcript.push_str(&format!(in alloc;
+        "shell 65.1: Caught error type 1 (UNSPECIFIED): too many objects\nshell 66.1: {name} #5 destroyed\nshell 67.1: {name} #5 created\n"
+    )?)?;
+    transcript.push_str("total received 0 dropped 0 queues 0\n")?;
+    Ok((script, transcript))
+}
+
+#[test]
+fn there_are_at_most_64_templates_of_a_kind(rt: HostRuntime) -> Result<(), AllocError> {
+    for (create, destroy, name) in &KINDS {
+        let (script, transcript) = more_than_64(rt.alloc(), create, destroy, name)?;
+        let row = Row::done(name, &SCRIPT_ALONE, &script, &[], &transcript);
+        expect(&rt, rt.alloc(), &row);
+    }
+    Ok(())
 }
