@@ -1,5 +1,10 @@
-//! Generated frames of all kinds of headers, on ways of all lengths, through an adapter's history and back.
-use adapter::{Adapter, At, Call, Caller, EntryView, Op, Parcel};
+//! Generated frames of all kinds of headers, on ways of all lengths, through an adapter's history and back. They are entered as they
+//! come, with room taken ahead, and packed before.
+ghost use Rattle.std.specs.Prelude.{◌≡◌};
+ghost use Rattle.adapter.specs.State.{flows_of, state_of};
+ghost use Rattle.flow_rules.specs.Walk.{verdict_of};
+
+use adapter::{Adapter, At, Call, Caller, EntryView, Op, Packed, Parcel};
 use arrayvec::ArrayVec;
 use flow_actions::{ALL_RSS_TYPES, Action, Actions, Fate, Rss, Verdict};
 use flow_rules::{Attr, Limits, RuleSpec};
@@ -335,8 +340,56 @@ fn is_shown(rt: &impl Abort, entry: &EntryView<'_>, parcel: &Parcel, verdict: &V
     *caller == Caller(24)
 }
 
+/// Enters a frame that room was taken for.
+fn enter_with_room(
+    adapter: &mut Adapter,
+    parcel: &Parcel,
+    verdict: &Verdict,
+) -> Result<(), AllocError>
+    requires { verdict.now ≡ verdict_of (flows_of (state_of adapter.old.limits adapter.old.history)) parcel.now.key }
+{
+    adapter.reserve(0, 1)?;
+    adapter.packet(Caller(24), parcel, verdict)
+}
+
+/// Enters a frame that was packed before.
+fn enter_packed(
+    alloc: Global,
+    adapter: &mut Adapter,
+    parcel: &Parcel,
+    verdict: &Verdict,
+) -> Result<(), AllocError>
+    requires { verdict.now ≡ verdict_of (flows_of (state_of adapter.old.limits adapter.old.history)) parcel.now.key }
+{
+    let packed = Packed::new(alloc, Caller(24), parcel, verdict)?;
+    let mut frames = Vec::new(alloc);
+    frames.push(packed)?;
+    adapter.burst(frames)
+}
+
+/// Enters a frame in one of three ways.
+fn enter(
+    alloc: Global,
+    adapter: &mut Adapter,
+    parcel: &Parcel,
+    verdict: &Verdict,
+) -> Result<(), AllocError>
+    requires { verdict.now ≡ verdict_of (flows_of (state_of adapter.old.limits adapter.old.history)) parcel.now.key }
+{
+    match parcel.number % 5 {
+        0 => adapter.packet(Caller(24), parcel, verdict),
+        1 | 2 => enter_with_room(adapter, parcel, verdict),
+        _ => enter_packed(alloc, adapter, parcel, verdict),
+    }
+}
+
 /// Lets a frame pass, and compares it with what is shown of it.
-fn passes(rt: &impl Abort, adapter: &mut Adapter, seed: u32) -> Result<(), AllocError> {
+fn passes(
+    rt: &impl Abort,
+    alloc: Global,
+    adapter: &mut Adapter,
+    seed: u32,
+) -> Result<(), AllocError> {
     let parcel = Parcel {
         number: seed,
         key: key(seed),
@@ -348,7 +401,7 @@ fn passes(rt: &impl Abort, adapter: &mut Adapter, seed: u32) -> Result<(), Alloc
     tells_path(rt, &verdict, way);
     tells_mark(rt, &verdict, way);
     let place = adapter.entries();
-    adapter.packet(Caller(24), &parcel, &verdict)?;
+    enter(alloc, adapter, &parcel, &verdict)?;
     assert!(rt; place < adapter.entries());
     let is_same = is_shown(rt, &adapter.entry(place), &parcel, &verdict);
     assert!(rt; is_same, "frame {seed}");
@@ -360,7 +413,7 @@ fn frames_of_all_kinds_are_shown_as_they_passed(rt: HostRuntime) -> Result<(), A
     for way in 0..WAYS {
         let mut adapter = adapter_of(rt.alloc(), way)?;
         for kind in 0..KEYS {
-            passes(&rt, &mut adapter, way * KEYS + kind)?;
+            passes(&rt, rt.alloc(), &mut adapter, way * KEYS + kind)?;
         }
     }
     Ok(())
