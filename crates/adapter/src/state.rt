@@ -119,7 +119,7 @@ impl State {
         ensures room { OnOk result (1 ≤ self.new.room) }
         ensures shared_room { OnOk result (1 ≤ self.new.shared_room) }
     {
-        self.rules.reserve()?;
+        self.rules.reserve(1)?;
         self.shared.reserve()
     }
 

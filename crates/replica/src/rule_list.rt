@@ -44,7 +44,7 @@ impl RuleList {
         ensures ok { OnOk result (self.new ≡ self.old ++ rule.now ∷ []) }
         ensures err { OnErr result (self.new ≡ self.old) }
     {
-        self.rules.reserve()?;
+        self.rules.reserve(1)?;
         let copy = rule.clone()?;
         self.rules.push(copy, None);
         Ok(())

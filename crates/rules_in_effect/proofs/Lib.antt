@@ -3,3 +3,4 @@ mod Kept
 mod Named
 mod Ordered
 mod Scanning
+mod Waits

@@ -1,6 +1,5 @@
 -- How the code keeps the rules in effect.
-use Rattle.std.specs.Prelude.{◌≡◌, ℕ, ◌&&◌, if◌then◌else◌, List, [], ◌∷◌, Option, Some, count_by}
-use Rattle.std.specs.Option.{is_none}
+use Rattle.std.specs.Prelude.{◌≡◌, ℕ, min, List, [], ◌∷◌, Option, Some, count_by}
 use Rattle.slot_pool.specs.declared.handle.Handle.{Handle}
 use Rattle.rules_in_effect.specs.declared.in_effect.InEffect.{InEffect}
 use Rattle.rules_in_effect.specs.declared.rules.RulesInEffect.TheInside.{Inside}
@@ -12,7 +11,7 @@ use Rattle.rules_in_effect.specs.RulesView.{RulesView}
 abbrev pub view_of : Inside → RulesView
 view_of kept = record {
   list = entries kept.order.kept;
-  room = if kept.order.has_room && is_none kept.index.newest then 1 else 0;
+  room = min kept.order.room kept.index.room;
 }
 
 -- the handle of each rule is found by the rule's id

@@ -1,5 +1,5 @@
 -- Rules in the order in which they took effect, each under its handle.
-use Rattle.std.specs.Prelude.{ℕ, Bool, map, filter, if◌then◌else◌, List, Option}
+use Rattle.std.specs.Prelude.{ℕ, map, filter, if◌then◌else◌, List, Option}
 use Rattle.std.specs.Map.{lookup}
 use Rattle.slot_pool.specs.declared.handle.Handle.{Handle}
 use Rattle.slot_pool.specs.Handle.{same_handle}
@@ -7,10 +7,10 @@ use Rattle.slot_pool.specs.Links.{is_other}
 use Rattle.rules_in_effect.specs.declared.in_effect.InEffect.{InEffect}
 use Rattle.rules_in_effect.specs.Entries.{with_hit}
 
--- the rules in order, each under its handle, and whether one more can come without memory
+-- the rules in order, each under its handle, and how many more can come without memory
 pub record OrderView : Type 0 where
   pub kept : List (Handle × InEffect)
-  pub has_room : Bool
+  pub room : ℕ
 
 abbrev pub entry_in : Handle × InEffect → InEffect
 entry_in pair = pair.1

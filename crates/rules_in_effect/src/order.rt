@@ -1,5 +1,5 @@
 //! The order in which rules took effect.
-ghost use Rattle.std.specs.Prelude.{◌≡◌, ◌+◌, ◌^◌, ◌≤◌, ◌<◌, ◌-◌, ◌≢◌, ◌++◌, ◌∷◌, [], true, None, Some, length, map, slice_get, IfOk, OnOk, IsSome};
+ghost use Rattle.std.specs.Prelude.{◌≡◌, ◌+◌, ◌^◌, ◌≤◌, ◌<◌, ◌-◌, ◌≢◌, ◌++◌, ◌∷◌, [], None, Some, length, map, slice_get, IfOk, OnOk, IsSome};
 ghost use Rattle.std.specs.List.{list_any};
 ghost use Rattle.std.specs.Option.{option_copied, option_map};
 ghost use Rattle.flow_rules.specs.Best as spec;
@@ -8,15 +8,14 @@ ghost use Rattle.slot_pool.specs.Pool.{get};
 ghost use Rattle.rules_in_effect.specs.Order.{entries, under, but, hit_under};
 ghost use Rattle.rules_in_effect.specs.OrderInside.{lodged, IsPut};
 
-use crate::in_effect::InEffect;
-use crate::lodging::Lodging;
+use crate::in_effect::{InEffect, hit};
 use crate::scan::{better_of, is_used_in};
 use flow_rules::Rule;
 use packet_headers::Key;
 use slot_pool::{Chain, Handle, Pool};
 use std::alloc::{AllocError, Global};
 use std::marker::Model;
-use std::mem;
+use std::slice;
 
 /// The places of the first rules.
 const FEWEST_PLACES: u32 = 8;
@@ -26,17 +25,14 @@ const MAX_PLACES: u32 = 2_147_483_648;
 
 /// The rules in the order in which they took effect.
 ///
-/// Each lies in a place of a pool, whose chain has the order. Memory for one more is taken ahead.
+/// Each lies in a place of a pool, whose chain has the order. Places for more are made ahead.
 #[derive(Drop)]
 pub(crate) struct Order {
-    pool: Pool<Lodging>,
+    pool: Pool<InEffect>,
     chain: Chain,
     len: u32,
     /// How many places the pool has.
     capacity: u32,
-    /// Room for the next rule.
-    spare: Vec<InEffect>,
-    alloc: Global,
 }
 
 impl Model for Order {
@@ -61,8 +57,6 @@ impl Order {
             chain: Chain::new(),
             len: 0,
             capacity: 0,
-            spare: Vec::new(alloc),
-            alloc,
         }
     }
 
@@ -73,29 +67,29 @@ impl Order {
         self.len as usize
     }
 
-    /// Takes memory for one more rule.
-    pub(crate) fn reserve(&mut self) -> Result<(), AllocError>
+    /// Takes memory for so many rules more.
+    pub(crate) fn reserve(&mut self, more: u32) -> Result<(), AllocError>
         ensures same { self.new.kept ≡ self.old.kept }
-        ensures room { OnOk result (self.new.has_room ≡ true) }
+        ensures room { OnOk result (more ≤ self.new.room) }
     {
-        if self.pool.puts() == u64::MAX {
+        if u64::MAX - self.pool.puts() < u64::from(more) {
             return Err(AllocError);
         }
-        let more = wanted_places(self.len, self.capacity)?;
-        self.pool.grow(more)?;
-        self.capacity += more;
-        self.spare.reserve(1)
+        let places = wanted_places(self.len, self.capacity, more)?;
+        self.pool.grow(places)?;
+        self.capacity += places;
+        Ok(())
     }
 
     /// A rule comes behind all others, and gets a handle.
     pub(crate) fn append(&mut self, entry: InEffect) -> Handle
-        requires { self.old.has_room ≡ true }
+        requires { 1 ≤ self.old.room }
         ensures kept { self.new.kept ≡ self.old.kept ++ (result, entry) ∷ [] }
         ensures fresh { under result self.old.kept ≡ None }
         ensures few { length self.new.kept ≤ 2 ^ 31 }
+        ensures left { self.new.room + 1 ≡ self.old.room }
     {
-        let room = mem::replace(&mut self.spare, Vec::new(self.alloc));
-        let handle = lodge(&mut self.pool, Lodging::new(room, entry));
+        let handle = lodge(&mut self.pool, entry);
         self.pool.link(&mut self.chain, handle);
         self.len += 1;
         handle
@@ -106,18 +100,20 @@ impl Order {
         requires { IsSome (under handle self.old.kept) }
         ensures entry { under handle self.old.kept ≡ Some result }
         ensures others { self.new.kept ≡ but handle self.old.kept }
+        ensures room { self.old.room ≤ self.new.room }
     {
         self.pool.unlink(&mut self.chain, handle);
         self.len -= 1;
-        self.pool.take(handle).unwrap().into_entry()
+        self.pool.take(handle).unwrap()
     }
 
     /// Counts one frame more, of so many bytes, for the rule under a handle.
     pub(crate) fn hit(&mut self, handle: Handle, bytes: u32)
         requires { CanCount bytes (under handle self.old.kept) }
-        ensures { self.new.kept ≡ hit_under handle bytes self.old.kept }
+        ensures kept { self.new.kept ≡ hit_under handle bytes self.old.kept }
+        ensures room { self.new.room ≡ self.old.room }
     {
-        self.pool.get_mut(handle).unwrap().hit(bytes);
+        hit(self.pool.get_mut(handle).unwrap(), bytes);
     }
 
     /// The rule under a handle.
@@ -189,44 +185,44 @@ impl Order {
 }
 
 /// Puts a rule into a free place.
-fn lodge(pool: &mut Pool<Lodging>, lodging: Lodging) -> Handle
+fn lodge(pool: &mut Pool<InEffect>, entry: InEffect) -> Handle
     requires puts { pool.old.puts < 2 ^ 64 - 1 }
     requires room { length pool.old.values ≢ pool.old.capacity }
-    ensures { IsPut pool.old pool.new result lodging }
+    ensures { IsPut pool.old pool.new result entry }
 {
-    match pool.put(lodging) {
+    match pool.put(entry) {
         Ok(handle) => handle,
         Err(_) => unreachable!(),
     }
 }
 
 /// What lies under a handle.
-fn lodged_in(pool: &Pool<Lodging>, handle: Handle) -> &[InEffect]
+fn lodged_in(pool: &Pool<InEffect>, handle: Handle) -> &[InEffect]
     ensures { result.now ≡ lodged (get pool.now handle) }
 {
     match pool.get(handle) {
-        Some(lodging) => lodging.as_slice(),
+        Some(entry) => slice::from_ref(entry),
         None => &[],
     }
 }
 
-/// How many places are wanted for one rule more: none, or as many as there are.
-fn wanted_places(len: u32, capacity: u32) -> Result<u32, AllocError>
+/// How many places are wanted for so many rules more: none, or at least as many as there are.
+fn wanted_places(len: u32, capacity: u32, more: u32) -> Result<u32, AllocError>
     requires within { len ≤ capacity }
     requires small { capacity ≤ 2 ^ 31 }
-    ensures enough { IfOk result (λ more. len < capacity + more) }
-    ensures most { IfOk result (λ more. capacity + more ≤ 2 ^ 31) }
+    ensures enough { IfOk result (λ places. len + more ≤ capacity + places) }
+    ensures most { IfOk result (λ places. capacity + places ≤ 2 ^ 31) }
 {
-    if len < capacity {
+    let free = capacity - len;
+    if more <= free {
         return Ok(0);
     }
-    if capacity > MAX_PLACES / 2 {
+    let missing = more - free;
+    let most = MAX_PLACES - capacity;
+    if missing > most {
         return Err(AllocError);
     }
-    if capacity < FEWEST_PLACES {
-        return Ok(FEWEST_PLACES);
-    }
-    Ok(capacity)
+    Ok(missing.max(capacity).max(FEWEST_PLACES).min(most))
 }
 
 /// Adds rows for these rules.

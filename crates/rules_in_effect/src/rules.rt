@@ -65,20 +65,21 @@ impl RulesInEffect {
         self.plain
     }
 
-    /// Takes memory for one more rule.
-    pub fn reserve(&mut self) -> Result<(), AllocError>
+    /// Takes memory for so many rules more. Above 2^31 rules in all there is none.
+    pub fn reserve(&mut self, more: u32) -> Result<(), AllocError>
         ensures same { self.new.list ≡ self.old.list }
-        ensures room { OnOk result (1 ≤ self.new.room) }
+        ensures room { OnOk result (more ≤ self.new.room) }
     {
-        self.index.settle()?;
-        self.order.reserve()
+        self.index.reserve(more)?;
+        self.order.reserve(more)
     }
 
-    /// A rule takes effect behind all others. Nothing is counted yet.
+    /// A rule takes effect behind all others, in room for one. Nothing is counted yet.
     pub fn push(&mut self, rule: Shared<Rule>, table: Option<u16>)
         requires room { 1 ≤ self.old.room }
         requires fresh { entry_at rule.id self.old.list ≡ None }
-        ensures { self.new.list ≡ self.old.list ++ record { rule = rule; table = table; count = record { hits = 0; bytes = 0 } } ∷ [] }
+        ensures list { self.new.list ≡ self.old.list ++ record { rule = rule; table = table; count = record { hits = 0; bytes = 0 } } ∷ [] }
+        ensures left { self.old.room ≤ self.new.room + 1 }
     {
         let id = rule.get().id();
         let handle = self.order.append(InEffect {
@@ -94,6 +95,7 @@ impl RulesInEffect {
     pub fn remove(&mut self, id: u32) -> Option<InEffect>
         ensures entry { result ≡ entry_at id self.old.list }
         ensures others { self.new.list ≡ without id self.old.list }
+        ensures room { self.old.room ≤ self.new.room }
     {
         let Some(handle) = self.index.get(id) else {
             return None;
@@ -108,6 +110,7 @@ impl RulesInEffect {
     pub fn pop_first(&mut self) -> Option<InEffect>
         ensures entry { result ≡ slice_get self.old.list 0 }
         ensures others { self.new.list ≡ drop 1 self.old.list }
+        ensures room { self.old.room ≤ self.new.room }
     {
         let Some(id) = self.first_id() else {
             return None;
@@ -128,7 +131,8 @@ impl RulesInEffect {
 
     /// All rules go.
     pub fn clear(&mut self)
-        ensures { self.new.list ≡ [] }
+        ensures list { self.new.list ≡ [] }
+        ensures room { self.old.room ≤ self.new.room }
     {
         while self.pop_first().is_some() {}
     }
@@ -153,7 +157,8 @@ impl RulesInEffect {
     /// Counts one frame more, of so many bytes, for the rule of this id.
     pub fn raise(&mut self, id: u32, bytes: u32)
         requires { CanCount bytes (entry_at id self.old.list) }
-        ensures { self.new.list ≡ raised id bytes self.old.list }
+        ensures list { self.new.list ≡ raised id bytes self.old.list }
+        ensures room { self.new.room ≡ self.old.room }
     {
         let Some(handle) = self.index.get(id) else {
             unreachable!()

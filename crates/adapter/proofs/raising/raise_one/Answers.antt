@@ -13,7 +13,7 @@ returns-in-Rule c =
     let shared = c.args.shared.now.entries in
     let id = c.in-Rule.id in
     subst (λ (n : Counter). Raises rules shared c.raise.new.self.list shared (n ∷ []) c.args.bytes) (sym c.in-Rule.is)
-    (subst (λ (list : List InEffect). Raises rules shared list shared (counters.Rule id ∷ []) c.args.bytes) (sym c.raise.ensures)
+    (subst (λ (list : List InEffect). Raises rules shared list shared (counters.Rule id ∷ []) c.args.bytes) (sym c.raise.ensures.list)
     (Raises-rule id c.args.bytes rules shared (subst (λ (n : Counter). IsKept n rules shared) c.in-Rule.is c.requires.there) (placed-raised id c.args.bytes rules)))
 
 pub returns-in-Shared : goal.returns-in-Shared

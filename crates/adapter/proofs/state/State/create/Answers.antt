@@ -27,14 +27,14 @@ pub returns-clause-counts : goal.returns-clause-counts
 returns-clause-counts c =
     let s = c.self.inside in
     carried (state_kept s) _ c.self.view_is c.push.new.self.list s.shared.entries s.isolated s.rxq c.self.invariant.in_effect
-    (λ q. subst (λ (list : List InEffect). CarriesRule (rules.entry_at q s.rules.list) (rules.entry_at q list)) (sym c.push.ensures)
+    (λ q. subst (λ (list : List InEffect). CarriesRule (rules.entry_at q s.rules.list) (rules.entry_at q list)) (sym c.push.ensures.list)
     (pushed_rule q s.rules.list (record { rule = c.args.rule; table = None; count = record { hits = 0; bytes = 0 } }) refl))
     (λ q. same_shared (entry_at q s.shared.entries))
 
 pub invariant_of-self : goal.invariant_of-self
 invariant_of-self c =
     let s = c.self.inside in
-    let outside : AreOutside (map placed c.push.new.self.list) = subst (λ (list : List InEffect). AreOutside (map placed list)) (sym c.push.ensures)
+    let outside : AreOutside (map placed c.push.new.self.list) = subst (λ (list : List InEffect). AreOutside (map placed list)) (sym c.push.ensures.list)
     (AreOutside-pushed s.rules.list (record { rule = c.args.rule; table = None; count = record { hits = 0; bytes = 0 } }) refl c.self.invariant.outside) in
     record {
       in_effect = c.self.invariant.in_effect;

@@ -14,13 +14,13 @@ pub returns-clause-counts : goal.returns-clause-counts
 returns-clause-counts c =
     let s = c.self.inside in
     carried (state_kept s) _ c.self.view_is c.clear.new.self.list s.shared.entries s.isolated s.rxq c.self.invariant.in_effect
-    (λ q. subst (λ (list : List InEffect). CarriesRule (rules.entry_at q s.rules.list) (rules.entry_at q list)) (sym c.clear.ensures) refl)
+    (λ q. subst (λ (list : List InEffect). CarriesRule (rules.entry_at q s.rules.list) (rules.entry_at q list)) (sym c.clear.ensures.list) refl)
     (λ q. same_shared (entry_at q s.shared.entries))
 
 pub invariant_of-self : goal.invariant_of-self
 invariant_of-self c =
     let s = c.self.inside in
-    let outside : AreOutside (map placed c.clear.new.self.list) = subst (λ (list : List InEffect). AreOutside (map placed list)) (sym c.clear.ensures)
+    let outside : AreOutside (map placed c.clear.new.self.list) = subst (λ (list : List InEffect). AreOutside (map placed list)) (sym c.clear.ensures.list)
     (All-nil (λ (r : Placed). r.table ≡ None)) in
     record {
       in_effect = c.self.invariant.in_effect;

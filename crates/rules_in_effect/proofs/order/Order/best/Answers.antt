@@ -35,7 +35,7 @@ pub returns : goal.returns
 returns c =
     let handles : List Handle = members c.self.inside.pool.links c.self.inside.chain in
     let so_far : Option RuleView = option_map (λ rule. rule.now) c.loop-place.best in
-    let past : length handles ≤ c.loop-place._place = omega (arith, c.self.invariant.0.number) in
+    let past : length handles ≤ c.loop-place._place = omega (arith, c.self.invariant.number) in
     ap (scanned c.args.group c.args.key.now so_far) (sym (lodged_under-all (get c.self.inside.pool) handles c.loop-place._place past))
     ∙ c.loop-place.invariant.1
     ∙ scan_is_best c.args.group c.args.key.now (lodged_under (get c.self.inside.pool) handles)

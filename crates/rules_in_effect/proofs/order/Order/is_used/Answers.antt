@@ -49,7 +49,7 @@ pub returns : goal.returns
 returns c =
     let handles : List Handle = members c.self.inside.pool.links c.self.inside.chain in
     let any : List InEffect → Bool = list_any (is_user c.args.id) in
-    let past : length handles ≤ c.loop-place._place = omega (arith, c.self.invariant.0.number) in
+    let past : length handles ≤ c.loop-place._place = omega (arith, c.self.invariant.number) in
     ap any (sym (lodged_under-all (get c.self.inside.pool) handles c.loop-place._place past))
     ∙ c.loop-place.invariant.1
     ∙ ap any (sym (entries-kept (get c.self.inside.pool) handles))

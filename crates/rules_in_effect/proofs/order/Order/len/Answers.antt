@@ -7,6 +7,6 @@ use Rattle.rules_in_effect.proofs.order.Order.len.Goals as goal
 
 pub returns : goal.returns
 returns c =
-    let order = c.self.invariant.0 in
+    let order = c.self.invariant in
     let handles = members c.self.inside.pool.links c.self.inside.chain in
     sym (length-kept (get c.self.inside.pool) handles order.lodgers ∙ order.number) ∙ ap (λ (v : OrderView). length v.kept) c.self.view_is

@@ -28,7 +28,7 @@ pub returns : goal.returns
 returns c =
     let handles : List Handle = members c.self.inside.pool.links c.self.inside.chain in
     let so_far : List InEffect = map (λ row. row.now) c.loop-place.rows.items in
-    let past : length handles ≤ c.loop-place._place = omega (arith, c.self.invariant.0.number) in
+    let past : length handles ≤ c.loop-place._place = omega (arith, c.self.invariant.number) in
     sym (append-nil so_far)
     ∙ ap (λ more. so_far ++ more) (sym (lodged_under-all (get c.self.inside.pool) handles c.loop-place._place past))
     ∙ c.loop-place.invariant.1

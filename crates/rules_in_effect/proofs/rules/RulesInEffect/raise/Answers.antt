@@ -22,12 +22,12 @@ pub invariant_of-self : goal.invariant_of-self
 invariant_of-self c =
     let is = sym c.get.ensures ∙ c.in-Some.is in
     let told = known (find c.self.inside.index) c.self.inside.order.kept c.args.id c.in-Some.handle c.self.invariant.0 is in (
-      subst (AreNamed (find c.self.inside.index)) (sym c.hit.ensures) (AreNamed-hit (find c.self.inside.index) c.self.inside.order.kept c.args.id c.args.bytes c.in-Some.handle c.self.invariant.0 is),
+      subst (AreNamed (find c.self.inside.index)) (sym c.hit.ensures.kept) (AreNamed-hit (find c.self.inside.index) c.self.inside.order.kept c.args.id c.args.bytes c.in-Some.handle c.self.invariant.0 is),
       c.self.invariant.1
-          ∙ sym (ap (λ kept. count_by is_plain (entries kept)) c.hit.ensures ∙ ap (count_by is_plain) (told.hit c.args.bytes) ∙ plain-raised c.args.id c.args.bytes (entries c.self.inside.order.kept)),
+          ∙ sym (ap (λ kept. count_by is_plain (entries kept)) c.hit.ensures.kept ∙ ap (count_by is_plain) (told.hit c.args.bytes) ∙ plain-raised c.args.id c.args.bytes (entries c.self.inside.order.kept)),
     )
 
-pub returns : goal.returns
-returns c =
+pub returns-clause-list : goal.returns-clause-list
+returns-clause-list c =
     let told = known (find c.self.inside.index) c.self.inside.order.kept c.args.id c.in-Some.handle c.self.invariant.0 (sym c.get.ensures ∙ c.in-Some.is) in
-    ap entries c.hit.ensures ∙ told.hit c.args.bytes ∙ ap (λ (v : RulesView). raised c.args.id c.args.bytes v.list) c.self.view_is
+    ap entries c.hit.ensures.kept ∙ told.hit c.args.bytes ∙ ap (λ (v : RulesView). raised c.args.id c.args.bytes v.list) c.self.view_is
