@@ -19,7 +19,7 @@
 //! settled with its rule, and the greatest id for which it ever reserved a slot (`specs/TableView`, `specs/Slots`). `specs/Refusals`
 //! has the faults of each call as one list whose head counts, and `specs/Bound` the rule that is bound.
 //!
-//! The plain way to keep slots is a list, and so they are kept, with the rules in boxes that their callers made. As ids rise, the list
+//! The plain way to keep slots is a list, and so they are kept, each settled rule shared with its caller. As ids rise, the list
 //! is in the order of the reservations. Only the three calls that make something take memory. Each call that makes or ends
 //! something has a judgement beside it, so that a caller can tell the answer before it acts.
 #![tactic(auto)]

@@ -1,13 +1,13 @@
 //! Template tables and their slots.
-ghost use Rattle.std.specs.Prelude.{◌≡◌, ◌+◌, ◌<◌, nat_eq, nat_lt, length, box_value, option_copied, IfOk, None, Some};
-ghost use Rattle.std.specs.Option.{option_map};
+ghost use Rattle.std.specs.Prelude.{◌≡◌, ◌+◌, ◌<◌, nat_eq, nat_lt, length, option_copied, IfOk, None, Some};
 ghost use Rattle.std.specs.Map.{lookup};
 ghost use Rattle.template_tables.specs.Slots.{IsAbove, reserved, settled, freed, settled_in};
 ghost use Rattle.template_tables.specs.TableView.{empty_table};
 
-use crate::slots::{Settled, place_of};
+use crate::slots::place_of;
 use arrayvec::ArrayVec;
 use flow_rules::{Attr, Rule};
+use shared_value::Shared;
 use std::alloc::{AllocError, Global};
 use std::marker::Model;
 
@@ -25,7 +25,7 @@ pub(crate) struct Table {
     /// How many slots there are.
     rules_number: u32,
     /// The taken slots with the ids of their rules, in the order of the reservations. There is room for all.
-    slots: Vec<(u32, Option<Settled>)>,
+    slots: Vec<(u32, Option<Shared<Rule>>)>,
     /// The greatest id for which a slot was ever reserved.
     greatest: Option<u32>,
 }
@@ -119,13 +119,13 @@ impl Table {
     }
 
     /// Puts a rule into the slot that was reserved for its id.
-    pub(crate) fn settle(&mut self, rule: Box<Rule>)
-        requires { lookup (nat_eq (box_value rule).id) self.old.slots ≡ Some None }
-        ensures { self.new ≡ settled (box_value rule) self.old }
+    pub(crate) fn settle(&mut self, rule: Shared<Rule>)
+        requires { lookup (nat_eq rule.id) self.old.slots ≡ Some None }
+        ensures { self.new ≡ settled rule self.old }
     {
-        let id = rule.id();
+        let id = rule.get().id();
         if let Some(place) = place_of(self.slots.as_slice(), id) {
-            self.slots[place] = (id, Some(Settled::new(rule)));
+            self.slots[place] = (id, Some(rule));
         }
     }
 
@@ -134,20 +134,19 @@ impl Table {
         ensures { option_copied result ≡ settled_in id self.now }
     {
         let place = place_of(self.slots.as_slice(), id)?;
-        let settled = self.slots[place].1.as_ref()?;
-        Some(settled.rule())
+        let rule = self.slots[place].1.as_ref()?;
+        Some(rule.get())
     }
 
     /// Empties the slot of an id, where a rule is settled there.
-    pub(crate) fn free(&mut self, id: u32) -> Option<Box<Rule>>
-        ensures rule { option_map box_value result ≡ settled_in id self.old }
+    pub(crate) fn free(&mut self, id: u32) -> Option<Shared<Rule>>
+        ensures rule { result ≡ settled_in id self.old }
         ensures freed { self.new ≡ freed id self.old }
     {
         let place = place_of(self.slots.as_slice(), id)?;
         if self.slots[place].1.is_none() {
             return None;
         }
-        let settled = self.slots.remove(place).1?;
-        Some(settled.into_rule())
+        self.slots.remove(place).1
     }
 }

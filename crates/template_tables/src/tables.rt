@@ -1,7 +1,6 @@
 //! The rules of tables: bound, and in their slots.
-ghost use Rattle.std.specs.Prelude.{◌≡◌, ◌+◌, nat_eq, length, box_value, option_copied, IfOk, IfSome, IsSome, OnOk, OnErr, None, Some};
+ghost use Rattle.std.specs.Prelude.{◌≡◌, ◌+◌, nat_eq, length, option_copied, IfOk, IfSome, IsSome, OnOk, OnErr, None, Some};
 ghost use Rattle.std.specs.Map.{lookup};
-ghost use Rattle.std.specs.Option.{option_map};
 ghost use Rattle.std.specs.Result.{result_err};
 ghost use Rattle.flow_rules.specs.Faults.{first};
 ghost use Rattle.template_tables.specs.Bound.{bind_refusals, bound_in};
@@ -14,6 +13,7 @@ use crate::templates::Templates;
 use flow_actions::Actions;
 use flow_rules::{Cause, Fault, Rule, RuleSpec};
 use pattern_items::Pattern;
+use shared_value::Shared;
 
 impl Templates {
     /// The rule of these items and actions that is bound to the templates at two indexes of a table.
@@ -65,10 +65,10 @@ impl Templates {
     }
 
     /// Puts a rule into the slot that was reserved for its id.
-    pub fn settle(&mut self, table: u16, rule: Box<Rule>)
+    pub fn settle(&mut self, table: u16, rule: Shared<Rule>)
         requires live { IsSome (table_of table self.old) }
-        requires reserved { IfSome (table_of table self.old) (λ (t : TableView). lookup (nat_eq (box_value rule).id) t.slots ≡ Some None) }
-        ensures { self.new ≡ with_table table (settled (box_value rule)) self.old }
+        requires reserved { IfSome (table_of table self.old) (λ (t : TableView). lookup (nat_eq rule.id) t.slots ≡ Some None) }
+        ensures { self.new ≡ with_table table (settled rule) self.old }
     {
         let Some(table) = self.tables.get_mut(&table) else {
             return;
@@ -77,8 +77,8 @@ impl Templates {
     }
 
     /// Empties the slot of an id, where a rule is settled there, and gives the rule back.
-    pub fn free_slot(&mut self, table: u16, id: u32) -> Option<Box<Rule>>
-        ensures rule { option_map box_value result ≡ settled_at id (table_of table self.old) }
+    pub fn free_slot(&mut self, table: u16, id: u32) -> Option<Shared<Rule>>
+        ensures rule { result ≡ settled_at id (table_of table self.old) }
         ensures freed { self.new ≡ with_table table (freed id) self.old }
     {
         let table = self.tables.get_mut(&table)?;

@@ -1,5 +1,5 @@
 -- A table behind a change of it.
-use Rattle.std.proofs.Common.{◌≡◌, ℕ, Bool, true, false, cond, nat_eq, List, [], ◌∷◌, None, Some, refl, ap, ◌∙◌}
+use Rattle.std.proofs.Common.{◌≡◌, ℕ, Bool, true, false, cond, nat_eq, List, [], ◌∷◌, Option, None, Some, IsSome, refl, ap, ◌∙◌, subst, sym}
 use Rattle.std.specs.Map.{lookup, set_value}
 use Rattle.template_tables.specs.TableView.{TableView}
 use Rattle.template_tables.specs.TemplatesView.{TemplatesView, table_of, with_table, changed_if}
@@ -19,3 +19,10 @@ pub table_changed : (id : ℕ) (change : TableView → TableView) (t : Templates
     → table_of id (with_table id change t) ≡ Some (change table)
 table_changed id change t table is =
     ap (λ found. table_of id (changed_if id change t found)) is ∙ lookup-written (nat_eq id) t.tables table (change table) is
+
+-- so it is there still
+pub table_there : (id : ℕ) (change : TableView → TableView) (t new : TemplatesView) → IsSome (table_of id t) → new ≡ with_table id change t → IsSome (table_of id new)
+table_there id change t new there is = by (table_of id t) refl there where
+  by : (o : Option TableView) → table_of id t ≡ o → IsSome o → IsSome (table_of id new)
+  by None none some = cc
+  by (Some table) found some = subst IsSome (sym (ap (table_of id) is ∙ table_changed id change t table found)) refl

@@ -6,6 +6,7 @@ ghost use Rattle.template_tables.specs.TemplatesView.{table_of};
 use crate::made::INGRESS;
 use arrayvec::ArrayVec;
 use flow_rules::{Cause, Fault, Limits, Rule, RuleSpec, validate};
+use shared_value::Shared;
 use std::alloc::{AllocError, Global};
 use std::process::Abort;
 use template_tables::Templates;
@@ -66,7 +67,7 @@ fn a_reserved_slot_is_taken(rt: HostRuntime) {
 fn a_freed_slot_is_left(rt: HostRuntime) -> Result<(), AllocError> {
     let mut templates = with_table(&rt, rt.alloc(), 1);
     assert!(rt; templates.reserve_slot(1, 7).is_ok());
-    templates.settle(1, Box::new(rt.alloc(), rule(&rt, 7))?);
+    templates.settle(1, Shared::new(rt.alloc(), rule(&rt, 7))?);
     assert!(rt; templates.rule(1, 7).is_some() && templates.slots_left(1) == 0);
     assert!(rt; templates.free_slot(1, 7).is_some());
     assert!(rt; templates.rule(1, 7).is_none() && templates.slots_left(1) == 1);

@@ -4,8 +4,8 @@ use Rattle.template_tables.specs.Slots.{IsFirstAt}
 use Rattle.template_tables.proofs.Placed.{some-removed}
 use Rattle.template_tables.proofs.table.Table.free.Goals as goal
 
-pub invariant_of-self-2 : goal.invariant_of-self-2
-invariant_of-self-2 c =
+pub invariant_of-self : goal.invariant_of-self
+invariant_of-self c =
     let table = c.self.inside in
     let found = subst (λ l. IsFirstAt c.args.id l c.in_ok-place.place) c.as_slice.ensures.value c.in_ok-place.ensures.found in
     record {
