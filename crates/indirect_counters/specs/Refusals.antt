@@ -45,6 +45,16 @@ update_faults rxq entries id value =
 abbrev pub update_fault : ℕ → Entries → ℕ → Action → Option Fault
 update_fault rxq entries id value = first (update_faults rxq entries id value)
 
+-- the faults of a new value that an operation queue shall take: what stands at the id doesn't count yet
+abbrev pub queued_update_faults : ℕ → Action → List Fault
+queued_update_faults rxq value =
+    fault_if (not (is_shareable (kind_of value))) causes.KindNotIndirect 0
+    ++ (fault_if (is_count value) causes.CannotUpdate 0
+    ++ fault_if (is_bad rxq 0 value) causes.ActionConf 0)
+
+abbrev pub queued_update_fault : ℕ → Action → Option Fault
+queued_update_fault rxq value = first (queued_update_faults rxq value)
+
 -- rules use it
 abbrev pub has_users : Option SharedAction → Bool
 has_users None = false

@@ -1,5 +1,5 @@
 //! The actions that rules share, by id.
-ghost use Rattle.std.specs.Prelude.{◌≡◌, ℕ, ◌-◌, ◌<◌, ◌≤◌, ◌^◌, [], length, IsSome, IfSome, IfOk, OnOk, OnErr, None, MatchResult, true};
+ghost use Rattle.std.specs.Prelude.{◌≡◌, ℕ, ◌+◌, ◌-◌, ◌<◌, ◌≤◌, ◌^◌, [], length, IsSome, IfSome, IfOk, OnOk, OnErr, None, MatchResult, true};
 ghost use Rattle.std.specs.Option.{option_copied};
 ghost use Rattle.std.specs.Result.{result_err};
 ghost use Rattle.flow_rules.specs.Shared.{IsSharedOn};
@@ -7,7 +7,7 @@ ghost use Rattle.flow_rules.specs.Faults.{first};
 ghost use Rattle.object_ids.specs.Ids.{id_for, id_faults};
 ghost use Rattle.indirect_counters.specs.Entries.{entry_at, in_effect_at, value_at, count_at};
 ghost use Rattle.indirect_counters.specs.Effects.{added, without, activated, updated, adopted, released, raised};
-ghost use Rattle.indirect_counters.specs.Refusals.{create_fault, is_same_kind, update_fault, destroy_fault, IsDue};
+ghost use Rattle.indirect_counters.specs.Refusals.{create_fault, is_same_kind, update_fault, queued_update_fault, destroy_fault, IsDue};
 ghost use Rattle.indirect_counters.specs.Sound.{Sound, AreOn, CanAdd};
 
 use crate::shared_action::{SharedAction, created};
@@ -148,6 +148,7 @@ impl Indirects {
     pub fn reserve(&mut self) -> Result<(), AllocError>
         ensures same { self.new.entries ≡ self.old.entries }
         ensures room { OnOk result (1 ≤ self.new.room) }
+        ensures kept { self.old.room ≤ self.new.room }
     {
         self.map.reserve(1)
     }
@@ -156,7 +157,8 @@ impl Indirects {
     pub fn add(&mut self, id: u16, action: &Action, held: bool)
         requires fine { CanAdd id action.now self.old.entries }
         requires room { 1 ≤ self.old.room }
-        ensures { self.new.entries ≡ added id action.now held self.old.entries }
+        ensures entries { self.new.entries ≡ added id action.now held self.old.entries }
+        ensures left { self.old.room ≤ self.new.room + 1 }
     {
         self.map.insert(id, created(action, held)).unwrap();
     }
@@ -173,6 +175,7 @@ impl Indirects {
         ensures id { IfOk result (λ new. new ≡ id_for id self.old.entries) }
         ensures added { IfOk result (λ new. self.new.entries ≡ added new action.now held self.old.entries) }
         ensures same { OnErr result (self.new.entries ≡ self.old.entries) }
+        ensures left { self.old.room ≤ self.new.room + 1 }
         ensures due { MatchResult result
             (λ _. create_fault limits.now.rxq self.old.entries id attr.now action.now ≡ None)
             (λ answer. IsDue answer (create_fault limits.now.rxq self.old.entries id attr.now action.now)) }
@@ -194,7 +197,8 @@ impl Indirects {
     pub fn activate(&mut self, id: u16)
         requires there { IsSome (entry_at id self.old.entries) }
         requires held { IfSome (entry_at id self.old.entries) (λ entry. entry.held ≡ true) }
-        ensures { self.new.entries ≡ activated id self.old.entries }
+        ensures entries { self.new.entries ≡ activated id self.old.entries }
+        ensures room { self.old.room ≤ self.new.room }
     {
         let Some(entry) = self.map.get_mut(&id) else {
             return;
@@ -232,6 +236,7 @@ impl Indirects {
     pub fn update(&mut self, id: u16, action: &Action, limits: &Limits) -> Result<(), Fault>
         ensures fault { result_err result ≡ update_fault limits.now.rxq self.old.entries id action.now }
         ensures updated { OnOk result (self.new.entries ≡ updated id action.now self.old.entries) }
+        ensures room { self.old.room ≤ self.new.room }
         ensures same { OnErr result (self.new ≡ self.old) }
     {
         if let Some(fault) = self.update_fault(id, action, limits) {
@@ -261,6 +266,7 @@ impl Indirects {
     pub fn destroy(&mut self, id: u16) -> Result<(), Fault>
         ensures fault { result_err result ≡ destroy_fault self.old.entries id }
         ensures gone { OnOk result (self.new.entries ≡ without id self.old.entries) }
+        ensures room { self.old.room ≤ self.new.room }
         ensures same { OnErr result (self.new ≡ self.old) }
     {
         if let Some(fault) = self.destroy_fault(id) {
@@ -272,7 +278,8 @@ impl Indirects {
 
     /// Takes out what stands at an id, held or in effect. The others keep their order.
     pub fn remove(&mut self, id: u16)
-        ensures { self.new.entries ≡ without id self.old.entries }
+        ensures entries { self.new.entries ≡ without id self.old.entries }
+        ensures room { self.old.room ≤ self.new.room }
     {
         let _gone = self.map.shift_remove(&id);
     }
@@ -281,7 +288,8 @@ impl Indirects {
     pub fn adopt(&mut self, id: u16)
         requires there { IsSome (in_effect_at id self.old.entries) }
         requires room { IfSome (in_effect_at id self.old.entries) (λ entry. entry.users < 2 ^ 32 - 1) }
-        ensures { self.new.entries ≡ adopted id self.old.entries }
+        ensures entries { self.new.entries ≡ adopted id self.old.entries }
+        ensures room { self.old.room ≤ self.new.room }
     {
         let Some(entry) = self.map.get_mut(&id) else {
             return;
@@ -293,7 +301,8 @@ impl Indirects {
     pub fn release(&mut self, id: u16)
         requires there { IsSome (entry_at id self.old.entries) }
         requires used { IfSome (entry_at id self.old.entries) (λ entry. 1 ≤ entry.users) }
-        ensures { self.new.entries ≡ released id self.old.entries }
+        ensures entries { self.new.entries ≡ released id self.old.entries }
+        ensures room { self.old.room ≤ self.new.room }
     {
         let Some(entry) = self.map.get_mut(&id) else {
             return;
@@ -305,7 +314,8 @@ impl Indirects {
     pub fn raise(&mut self, id: u16, bytes: u32)
         requires there { IsSome (in_effect_at id self.old.entries) }
         requires room { IfSome (in_effect_at id self.old.entries) (λ entry. entry.count.hits < 2 ^ 64 - 1) }
-        ensures { self.new.entries ≡ raised id bytes self.old.entries }
+        ensures entries { self.new.entries ≡ raised id bytes self.old.entries }
+        ensures room { self.old.room ≤ self.new.room }
     {
         let Some(entry) = self.map.get_mut(&id) else {
             return;
@@ -313,6 +323,22 @@ impl Indirects {
         entry.count.hits += 1;
         entry.count.bytes += bytes as u128;
     }
+}
+
+/// Why an operation queue can't take an update to this value, if it can't. What stands at the id then is seen when it is carried out.
+pub fn queued_update_fault(action: &Action, limits: &Limits) -> Option<Fault>
+    ensures { result ≡ queued_update_fault limits.now.rxq action.now }
+{
+    if !action.kind().is_shareable() {
+        return Some(fault(Cause::KindNotIndirect));
+    }
+    if action.kind() == ActionKind::Count {
+        return Some(fault(Cause::CannotUpdate));
+    }
+    if is_bad_value(limits.rxq, 0, action) {
+        return Some(fault(Cause::ActionConf));
+    }
+    None
 }
 
 /// Whether two of the kinds that rules can share are the same.

@@ -20,7 +20,8 @@
 //! The plain way to find the first refusal of a call is to write all of them in one list and take its head, and that is the
 //! definition (`specs/Refusals`); the code stops at the first. A call can be judged without being made (`create_fault`,
 //! `update_fault`, `destroy_fault`): who has to write down a reply before anything changes judges first, and what it carries
-//! out then can't fail. Only a creation takes memory, and `reserve` takes it in advance, for `add`.
+//! out then can't fail. An update that an operation queue shall take is judged by its value alone ([`queued_update_fault`]). Only
+//! a creation takes memory, and `reserve` takes it in advance, for `add`: each call tells what room it leaves.
 //!
 //! How many rules use an action is what the caller says by `adopt` and `release`, and what it counted is what the caller
 //! says by `raise`. No counter can wrap in its bytes: each frame adds one hit and at most 2^32 - 1 bytes, which the
@@ -42,7 +43,7 @@ mod laws;
 mod shared_action;
 
 pub use bank::CounterBank;
-pub use indirects::Indirects;
+pub use indirects::{Indirects, queued_update_fault};
 pub use laws::{
     each_call_changes_its_own_id, new_values_keep_the_kinds, rules_see_the_values_in_effect,
     values_are_on_the_port,

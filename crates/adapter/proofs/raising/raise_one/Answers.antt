@@ -23,5 +23,5 @@ returns-in-Shared c =
     let id = c.in-Shared.id in
     let there = subst (λ (n : Counter). IsKept n rules shared) c.in-Shared.is c.requires.there in
     subst (λ (n : Counter). Raises rules shared rules c.raise-in-Shared.new.self.entries (n ∷ []) c.args.bytes) (sym c.in-Shared.is)
-    (subst (λ (es : Entries). Raises rules shared rules es (counters.Shared id ∷ []) c.args.bytes) (sym c.raise-in-Shared.ensures)
+    (subst (λ (es : Entries). Raises rules shared rules es (counters.Shared id ∷ []) c.args.bytes) (sym c.raise-in-Shared.ensures.entries)
     (Raises-shared id c.args.bytes rules shared (in_effect-there id shared there.1)))

@@ -28,8 +28,8 @@ invariant_of-self c =
     let s = c.self.inside in
     let on : IsSharedOn s.rxq c.args.action.now = subst (λ (k : KeptState). IsSharedOn k.rxq c.args.action.now) (sym c.self.view_is) c.requires.lawful in
     record {
-      in_effect = subst AreInEffect (sym c.add.ensures) (All-push (λ (entry : ℕ × SharedAction). entry.1.held ≡ false) s.shared.entries _ c.self.invariant.in_effect refl);
-      on_port = subst (AreOn s.rxq) (sym c.add.ensures) (AreOn-added s.rxq c.args.id c.args.action.now false s.shared.entries on c.self.invariant.on_port);
+      in_effect = subst AreInEffect (sym c.add.ensures.entries) (All-push (λ (entry : ℕ × SharedAction). entry.1.held ≡ false) s.shared.entries _ c.self.invariant.in_effect refl);
+      on_port = subst (AreOn s.rxq) (sym c.add.ensures.entries) (AreOn-added s.rxq c.args.id c.args.action.now false s.shared.entries on c.self.invariant.on_port);
       outside = c.self.invariant.outside;
       slots = c.self.invariant.slots;
     }
@@ -38,7 +38,7 @@ pub returns-clause-state : goal.returns-clause-state
 returns-clause-state c =
     let s = c.self.inside in
     let with_shared' : Shared → State = λ vs. record { rules = map placed s.rules.list; shared = vs; templates = plans_of s.templates; isolated = s.isolated; ids = s.ids; rxq = s.rxq } in
-    ap (λ es. with_shared' (values_in_effect es)) c.add.ensures
+    ap (λ es. with_shared' (values_in_effect es)) c.add.ensures.entries
     ∙ ap with_shared' (values-added c.args.id c.args.action.now s.shared.entries (can (state_kept s) _ c.self.view_is c.self.invariant.in_effect c.args.id c.args.action.now c.requires.free).free)
     ∙ ap (λ (k : KeptState). shared_set c.args.id c.args.action.now (state_in k)) c.self.view_is
 
@@ -46,7 +46,7 @@ pub returns-clause-counts : goal.returns-clause-counts
 returns-clause-counts c =
     let s = c.self.inside in
     carried (state_kept s) _ c.self.view_is s.rules.list c.add.new.self.entries s.isolated s.rxq
-    (subst AreInEffect (sym c.add.ensures) (All-push (λ (entry : ℕ × SharedAction). entry.1.held ≡ false) s.shared.entries _ c.self.invariant.in_effect refl))
+    (subst AreInEffect (sym c.add.ensures.entries) (All-push (λ (entry : ℕ × SharedAction). entry.1.held ≡ false) s.shared.entries _ c.self.invariant.in_effect refl))
     (λ q. same_rule (rules.entry_at q s.rules.list))
-    (λ q. subst (λ (es : Entries). CarriesShared (entry_at q s.shared.entries) (entry_at q es)) (sym c.add.ensures)
+    (λ q. subst (λ (es : Entries). CarriesShared (entry_at q s.shared.entries) (entry_at q es)) (sym c.add.ensures.entries)
     (added_shared c.args.id q c.args.action.now s.shared.entries (can (state_kept s) _ c.self.view_is c.self.invariant.in_effect c.args.id c.args.action.now c.requires.free).free))

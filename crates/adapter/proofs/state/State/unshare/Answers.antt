@@ -18,8 +18,8 @@ pub invariant_of-self : goal.invariant_of-self
 invariant_of-self c =
     let s = c.self.inside in
     record {
-      in_effect = subst AreInEffect (sym c.remove.ensures) (All-without (λ (entry : ℕ × SharedAction). entry.1.held ≡ false) c.args.id s.shared.entries c.self.invariant.in_effect);
-      on_port = subst (AreOn s.rxq) (sym c.remove.ensures) (AreOn-without s.rxq c.args.id s.shared.entries c.self.invariant.on_port);
+      in_effect = subst AreInEffect (sym c.remove.ensures.entries) (All-without (λ (entry : ℕ × SharedAction). entry.1.held ≡ false) c.args.id s.shared.entries c.self.invariant.in_effect);
+      on_port = subst (AreOn s.rxq) (sym c.remove.ensures.entries) (AreOn-without s.rxq c.args.id s.shared.entries c.self.invariant.on_port);
       outside = c.self.invariant.outside;
       slots = c.self.invariant.slots;
     }
@@ -30,7 +30,7 @@ returns-clause-state c =
     let with_shared' : Shared → State = λ vs. record { rules = map placed s.rules.list; shared = vs; templates = plans_of s.templates; isolated = s.isolated; ids = s.ids; rxq = s.rxq } in
     let there : IsSome (in_effect_at c.args.id s.shared.entries) =
     destroy-there s.rules.list s.shared.entries c.self.invariant.in_effect c.args.id (ap (λ (k : KeptState). destroy_fault (objects (state_in k)) c.args.id) c.self.view_is ∙ c.requires.due) in
-    ap (λ es. with_shared' (values_in_effect es)) c.remove.ensures
+    ap (λ es. with_shared' (values_in_effect es)) c.remove.ensures.entries
     ∙ ap with_shared' (values-without c.args.id s.shared.entries there)
     ∙ ap (λ (k : KeptState). shared_gone c.args.id (state_in k)) c.self.view_is
 
@@ -38,6 +38,6 @@ pub returns-clause-counts : goal.returns-clause-counts
 returns-clause-counts c =
     let s = c.self.inside in
     carried (state_kept s) _ c.self.view_is s.rules.list c.remove.new.self.entries s.isolated s.rxq
-    (subst AreInEffect (sym c.remove.ensures) (All-without (λ (entry : ℕ × SharedAction). entry.1.held ≡ false) c.args.id s.shared.entries c.self.invariant.in_effect))
+    (subst AreInEffect (sym c.remove.ensures.entries) (All-without (λ (entry : ℕ × SharedAction). entry.1.held ≡ false) c.args.id s.shared.entries c.self.invariant.in_effect))
     (λ q. same_rule (rules.entry_at q s.rules.list))
-    (λ q. subst (λ (es : Entries). CarriesShared (entry_at q s.shared.entries) (entry_at q es)) (sym c.remove.ensures) (removed_shared c.args.id q s.shared.entries c.len-number.ensures.sound.ids))
+    (λ q. subst (λ (es : Entries). CarriesShared (entry_at q s.shared.entries) (entry_at q es)) (sym c.remove.ensures.entries) (removed_shared c.args.id q s.shared.entries c.len-number.ensures.sound.ids))

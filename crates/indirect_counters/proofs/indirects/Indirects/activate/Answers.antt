@@ -20,8 +20,8 @@ invariant_of-self-2 c =
     } in
     Sound-same sound is
 
-pub returns : goal.returns
-returns c =
+pub returns-clause-entries : goal.returns-clause-entries
+returns-clause-entries c =
     activated-is c.args.id c.self.inside.map.entries c.in-Some.entry.now c.move_index.ensures.entries c.in-Some-get_index_of.ensures.index c.len-last.ensures.len
     (sym c.in-Some.ensures.value) (search rules)
     ∙ ap (λ (es : Entries). activated c.args.id es) (ap (λ v. v.entries) c.self.view_is)

@@ -11,8 +11,8 @@ invariant_of-self-2 c =
     let sound = Sound-changed_at c.args.id (λ entry. record entry { count = counted entry.count c.args.bytes }) (λ k e lawful. (lawful.0, lawful.1, counted-sum e.count c.args.bytes (omega (arith, c.ranges.bytes.fits)) lawful.2)) c.self.inside.map.entries c.self.invariant in
     Sound-same (subst Sound is sound) (search rules)
 
-pub returns : goal.returns
-returns c =
+pub returns-clause-entries : goal.returns-clause-entries
+returns-clause-entries c =
     let is = changed_at-is c.args.id (λ entry. record entry { count = counted entry.count c.args.bytes }) c.self.inside.map.entries c.in-Some.entry.now (sym c.in-Some.ensures.value) in
     search (rules, is)
 

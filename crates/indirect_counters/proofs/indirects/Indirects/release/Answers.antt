@@ -9,7 +9,7 @@ invariant_of-self-2 c =
     let sound = Sound-changed_at c.args.id (λ entry. record entry { users = entry.users - 1 }) (λ k e lawful. lawful) c.self.inside.map.entries c.self.invariant in
     Sound-same (subst Sound is sound) (search rules)
 
-pub returns : goal.returns
-returns c =
+pub returns-clause-entries : goal.returns-clause-entries
+returns-clause-entries c =
     let is = changed_at-is c.args.id (λ entry. record entry { users = entry.users - 1 }) c.self.inside.map.entries c.in-Some.entry.now (sym c.in-Some.ensures.value) in
     search (rules, is)
