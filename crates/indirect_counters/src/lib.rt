@@ -34,7 +34,7 @@
 //!
 //! The definitions: `specs/Entries` (the list, and what is seen of it), `specs/Effects` (what the calls do), `specs/Refusals`,
 //! `specs/Sound` (what holds between calls), `specs/Counts`. Who puts calls into a history, and which rules name which
-//! ids, is the business of the crates above.
+//! ids, is the business of the crates above. `proofs/Alike` tells, for callers to cite, which lists refuse the same calls.
 #![tactic(auto)]
 
 mod bank;

@@ -8,6 +8,8 @@
 //! it; [`least_unused`] and [`id_fault`] are functions of that list (`specs/Ids`). The plain way looks an id up in the list for
 //! each number from 0 on; here it is looked up in the map. As n objects can't use the n + 1 ids from 0 to n, there are at
 //! most n + 1 look-ups. Nothing but [`insert`] takes memory.
+//!
+//! `proofs/Alike` tells, for callers to cite, that lists which use the same ids give a new object the same id and the same faults.
 #![tactic(auto)]
 
 mod ids;
