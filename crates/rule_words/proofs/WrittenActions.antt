@@ -13,7 +13,7 @@ use Rattle.flow_actions.specs.Kinds.{kind_of}
 use Rattle.rule_words.specs.Vocabulary.{meaning_of}
 use Rattle.rule_words.specs.Number.{number_of_bits}
 use Rattle.rule_words.specs.Turns.{up_to}
-use Rattle.rule_words.specs.RssLists.{list_words, rss_setting}
+use Rattle.rule_words.specs.RssLists.{all_types, list_words, rss_setting}
 use Rattle.rule_words.specs.Actions.{words, with_value, with_word, value_setting, setting, with_action, begun, action_of, action_behind}
 use Rattle.rule_words.specs.Written.{words_up_to, made_by, alone, list_with, WrittenSetting, Value, Listed, setting_words, action_with, WrittenAction, Named, Shared, action_words, action_of_kind, action_said, actions_with}
 use Rattle.rule_words.proofs.WrittenLists.{rss-read, rss-only}
@@ -78,7 +78,7 @@ some_words (Value name value) = omega arith
 some_words (Listed name listed) = omega arith
 
 -- the word of an action that is named by its word alone
-unshared : (k : ActionKind) (a : Action) (rest : List (List ℕ)) → action_of_kind k ≡ Some a → begun k rest ≡ Some (a, rest)
+unshared : (k : ActionKind) (a : Action) (rest : List (List ℕ)) → action_of_kind k ≡ Some a → begun all_types k rest ≡ Some (a, rest)
 unshared kinds.Indirect a rest is = absurd cc
 unshared k a rest is = ap (option_map (λ b. (b, rest))) is
 
@@ -111,7 +111,7 @@ action-read (Named word settings) a rest is =
     let k = on_some (meaning_of words word) (λ k. option_and_then (λ a. made_by action_with a settings) (action_of_kind k)) a is in
     let begins = on_some (action_of_kind k.0) (λ a. made_by action_with a settings) a k.2 in
     let others = words_up_to (codes "/") setting_words settings ++ rest in
-    ap (option_and_then (λ k. option_and_then (λ front. up_to (codes "/") setting front.0 front.1) (begun k others))) k.1
+    ap (option_and_then (λ k. option_and_then (λ front. up_to (codes "/") setting front.0 front.1) (begun all_types k others))) k.1
     ∙ ap (option_and_then (λ (front : Action × List (List ℕ)). up_to (codes "/") setting front.0 front.1)) (unshared k.0 begins.0 others begins.1)
     ∙ up_to-read (codes "/") setting setting_words action_with some_words setting-read setting-begins settings begins.0 a rest begins.2
 action-read (Shared id) a rest is =
@@ -129,7 +129,7 @@ inside-shared n a (Listed name listed ∷ settings) is = absurd cc
 
 -- an action of a kind, from what follows its word
 only-of : (k : ActionKind) (word : List ℕ) (others : List (List ℕ)) (begins a : Action) (inside rest : List (List ℕ)) → meaning_of words word ≡ Some k
-    → begun k others ≡ Some (begins, inside) → (settings : List WrittenSetting) → inside ≡ words_up_to (codes "/") setting_words settings ++ rest
+    → begun all_types k others ≡ Some (begins, inside) → (settings : List WrittenSetting) → inside ≡ words_up_to (codes "/") setting_words settings ++ rest
     → made_by action_with begins settings ≡ Some a
     → (w : WrittenAction) × (word ∷ others ≡ action_words w ++ rest) × (action_said w ≡ Some a)
 only-of kinds.Indirect word [] begins a inside rest is front settings written made = absurd cc
@@ -155,8 +155,8 @@ only-of k word others begins a inside rest is front settings written made =
 pub action-only : (a : Action) (given rest : List (List ℕ)) → action_of given ≡ Some (a, rest) → (w : WrittenAction) × (given ≡ action_words w ++ rest) × (action_said w ≡ Some a)
 action-only a [] rest is = absurd cc
 action-only a (word ∷ others) rest is =
-    let k = on_some (meaning_of words word) (λ k. option_and_then (λ front. up_to (codes "/") setting front.0 front.1) (begun k others)) (a, rest) is in
-    let front = on_some (begun k.0 others) (λ (front : Action × List (List ℕ)). up_to (codes "/") setting front.0 front.1) (a, rest) k.2 in
+    let k = on_some (meaning_of words word) (λ k. option_and_then (λ front. up_to (codes "/") setting front.0 front.1) (begun all_types k others)) (a, rest) is in
+    let front = on_some (begun all_types k.0 others) (λ (front : Action × List (List ℕ)). up_to (codes "/") setting front.0 front.1) (a, rest) k.2 in
     let settings = turns-only (codes "/") setting setting_words action_with setting-only front.0.1 front.0.0 a front.0.1 rest front.2 in
     only-of k.0 word others front.0.0 a front.0.1 rest k.1 front.1 settings.0 settings.1 settings.2
 

@@ -15,7 +15,7 @@ use Rattle.rule_words.specs.declared.value.Form.TheVariants as forms
 use Rattle.rule_words.specs.Number.{first_number}
 use Rattle.rule_words.specs.Value.{width_of, value_of}
 use Rattle.rule_words.specs.Turns.{◌>>=◌, up_to}
-use Rattle.rule_words.specs.RssLists.{no_lists, rss_setting}
+use Rattle.rule_words.specs.RssLists.{all_types, unlisted, rss_setting}
 
 -- the kind of action that a word begins
 abbrev pub words : List (List ℕ × ActionKind)
@@ -63,11 +63,11 @@ value_row kinds.DecTtl = None
 value_row kinds.SetTtl = Some (codes "ttl_value", forms.Number 8)
 value_row kinds.SetVid = Some (codes "vlan_vid", forms.Number 16)
 
--- the action of a kind with a value; RSS is the one without a list
+-- the action of a kind with a value; RSS is the one without a list, of all types
 abbrev pub with_value : ActionKind → ℕ → Action
 with_value kinds.Void value = actions.Void
 with_value kinds.Queue value = actions.Queue value
-with_value kinds.Rss value = actions.Rss no_lists
+with_value kinds.Rss value = actions.Rss (unlisted all_types)
 with_value kinds.Drop value = actions.Drop
 with_value kinds.Jump value = actions.Jump value
 with_value kinds.Mark value = actions.Mark value
@@ -116,19 +116,24 @@ with_action actions a =
     else record actions { more = min (actions.more + 1) (2 ^ 16 - 1) }
 
 -- the action of a kind before anything inside it is read, and the words behind: an action that rules share has its id
--- there, and in the others what isn't named is 0
-abbrev pub begun : ActionKind → List (List ℕ) → Option (Action × List (List ℕ))
-begun kinds.Indirect rest = option_map (λ id. (with_value kinds.Indirect id.0, id.1)) (first_number 16 rest)
-begun kind rest = Some (with_value kind 0, rest)
+-- there, RSS has these types, and in the others what isn't named is 0
+abbrev pub begun : ℕ → ActionKind → List (List ℕ) → Option (Action × List (List ℕ))
+begun types kinds.Indirect rest = option_map (λ id. (with_value kinds.Indirect id.0, id.1)) (first_number 16 rest)
+begun types kinds.Rss rest = Some (actions.Rss (unlisted types), rest)
+begun types kind rest = Some (with_value kind 0, rest)
 
 -- what stands behind the word of an action of a kind, up to its `/`
-abbrev pub action_behind_word : ActionKind → List (List ℕ) → Option (Action × List (List ℕ))
-action_behind_word kind rest = begun kind rest >>= λ front. up_to (codes "/") setting front.0 front.1
+abbrev pub behind_word : ℕ → ActionKind → List (List ℕ) → Option (Action × List (List ℕ))
+behind_word types kind rest = begun types kind rest >>= λ front. up_to (codes "/") setting front.0 front.1
 
--- ACTION "/"
+-- ACTION "/", where RSS begins with these types
+abbrev pub action_from : ℕ → List (List ℕ) → Option (Action × List (List ℕ))
+action_from types [] = None
+action_from types (word ∷ rest) = meaning_of words word >>= λ kind. behind_word types kind rest
+
+-- ACTION "/" of a rule: where no type is named all count
 abbrev pub action_of : List (List ℕ) → Option (Action × List (List ℕ))
-action_of [] = None
-action_of (word ∷ rest) = meaning_of words word >>= λ kind. action_behind_word kind rest
+action_of rest = action_from all_types rest
 
 -- one more action
 abbrev pub action_behind : Actions → List (List ℕ) → Option (Actions × List (List ℕ))

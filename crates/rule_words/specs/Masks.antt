@@ -1,27 +1,23 @@
 -- The mask list of an actions template. It is written as actions are. An action is set where its value isn't 0, and RSS where a list
 -- stands in it that says something.
-use Rattle.std.specs.Prelude.{ℕ, ◌+◌, ◌-◌, ◌^◌, ◌==◌, ◌||◌, Bool, false, not, min, nat_lt, replicate, slice_set, List, [], ◌∷◌, ◌++◌, length, codes, Option, None, Some, option_map, if◌then◌else◌}
+use Rattle.std.specs.Prelude.{ℕ, ◌+◌, ◌-◌, ◌^◌, ◌==◌, ◌||◌, Bool, false, not, min, nat_lt, replicate, slice_set, List, [], ◌∷◌, ◌++◌, length, codes, Option, option_map, if◌then◌else◌}
 use Rattle.packet_headers.specs.declared.edits.Edit.{Edit}
 use Rattle.packet_headers.specs.declared.edits.Edit.TheVariants as edits
 use Rattle.flow_actions.specs.Kinds.{kind_of, is_void}
 use Rattle.flow_actions.specs.declared.action.Action.{Action}
 use Rattle.flow_actions.specs.declared.action.Action.TheVariants as actions
-use Rattle.flow_actions.specs.declared.action.ActionKind.{ActionKind}
-use Rattle.flow_actions.specs.declared.action.ActionKind.TheVariants as kinds
 use Rattle.flow_actions.specs.declared.rss.Rss.{Rss}
 use Rattle.rule_binding.specs.declared.template.Masks.{Masks}
-use Rattle.rule_words.specs.Actions.{words, setting, begun}
-use Rattle.rule_words.specs.RssLists.{no_queues}
-use Rattle.rule_words.specs.Vocabulary.{meaning_of}
-use Rattle.rule_words.specs.Turns.{◌>>=◌, up_to}
+use Rattle.rule_words.specs.Actions.{action_from}
+use Rattle.rule_words.specs.Turns.{up_to}
 
--- RSS of which no list is read yet. The six types are numbers up to 63, so 64 is none that a list says.
-abbrev pub unsaid : Rss
-unsaid = record { queues = no_queues; types = 64 }
+-- The types of RSS of which no list is read yet: the six types are numbers up to 63, so 64 is none that a list says.
+abbrev pub no_types_said : ℕ
+no_types_said = 64
 
 -- an empty list of queues says nothing, and a list of types always says something
 abbrev pub is_said : Rss → Bool
-is_said rss = nat_lt 0 (length rss.queues.items) || not (rss.types == 64)
+is_said rss = nat_lt 0 (length rss.queues.items) || not (rss.types == no_types_said)
 
 abbrev pub edit_value : Edit → ℕ
 edit_value (edits.MacSrc value) = value
@@ -47,20 +43,6 @@ is_set actions.Count = false
 is_set (actions.Indirect id) = not (id == 0)
 is_set (actions.Set edit) = not (edit_value edit == 0)
 
--- the action of a kind before anything inside it is read, and the words behind
-abbrev pub mask_begun : ActionKind → List (List ℕ) → Option (Action × List (List ℕ))
-mask_begun kinds.Rss rest = Some (actions.Rss unsaid, rest)
-mask_begun kind rest = begun kind rest
-
--- what stands behind the word of an action of a kind, up to its `/`
-abbrev pub mask_behind_word : ActionKind → List (List ℕ) → Option (Action × List (List ℕ))
-mask_behind_word kind rest = mask_begun kind rest >>= λ front. up_to (codes "/") setting front.0 front.1
-
--- ACTION "/"
-abbrev pub mask_of : List (List ℕ) → Option (Action × List (List ℕ))
-mask_of [] = None
-mask_of (word ∷ rest) = meaning_of words word >>= λ kind. mask_behind_word kind rest
-
 abbrev pub no_masks : Masks
 no_masks = record { kinds = record { items = [] }; set = replicate 16 false; more = 0 }
 
@@ -73,7 +55,7 @@ with_mask masks action =
     else record masks { more = min (masks.more + 1) (2 ^ 16 - 1) })
 
 abbrev pub mask_turn : Masks → List (List ℕ) → Option (Masks × List (List ℕ))
-mask_turn so_far rest = option_map (λ read. (with_mask so_far read.0, read.1)) (mask_of rest)
+mask_turn so_far rest = option_map (λ read. (with_mask so_far read.0, read.1)) (action_from no_types_said rest)
 
 -- the mask list that words make up to `end`, and the words behind it
 abbrev pub masks_of : List (List ℕ) → Option (Masks × List (List ℕ))

@@ -31,9 +31,13 @@ no_queues = record { items = [] }
 abbrev pub no_types : Types
 no_types = record { bits = 0 }
 
--- RSS without a list: no queue is named, and all six types count
-abbrev pub no_lists : Rss
-no_lists = record { queues = no_queues; types = 63 }
+-- RSS without a list, of these types: no queue is named
+abbrev pub unlisted : ℕ → Rss
+unlisted types = record { queues = no_queues; types = types }
+
+-- all six types count
+abbrev pub all_types : ℕ
+all_types = 63
 
 -- one more queue, of which there are at most 16
 abbrev pub with_queue : ArrayVec ℕ → List ℕ → Option (ArrayVec ℕ)

@@ -8,12 +8,12 @@ ghost use Rattle.rule_words.specs.Vocabulary.{meaning_of};
 
 use crate::address::Address;
 use crate::number::number_in_front;
-use crate::rss_lists::no_lists;
+use crate::rss_lists::unlisted;
 use crate::turns::{TurnReader, behind, read_up_to};
 use crate::value::{Form, read_value};
 use crate::vocabulary::meaning;
 use arrayvec::ArrayVec;
-use flow_actions::{Action, ActionKind, Actions};
+use flow_actions::{ALL_RSS_TYPES, Action, ActionKind, Actions};
 use packet_headers::Edit;
 
 static WORDS: [(&str, ActionKind); 19] = [
@@ -39,7 +39,7 @@ static WORDS: [(&str, ActionKind); 19] = [
 ];
 
 /// The kind of action that a word begins.
-pub(crate) fn begun_by(word: &[u8]) -> Option<ActionKind>
+fn begun_by(word: &[u8]) -> Option<ActionKind>
     ensures { result ≡ meaning_of spec.words word.now }
 {
     meaning(&WORDS, word)
@@ -73,7 +73,7 @@ fn value_row(kind: ActionKind) -> Option<(&'static [u8], Form)>
     }
 }
 
-/// The action of a kind with a value. RSS is the one without a list.
+/// The action of a kind with a value. RSS is the one without a list, of all types.
 fn with_value(kind: ActionKind, value: u128) -> Action
     requires { FitsIn kind value }
     ensures { result ≡ spec.with_value kind value }
@@ -81,7 +81,7 @@ fn with_value(kind: ActionKind, value: u128) -> Action
     match kind {
         ActionKind::Void => Action::Void,
         ActionKind::Queue => Action::Queue(value as u16),
-        ActionKind::Rss => Action::Rss(no_lists()),
+        ActionKind::Rss => Action::Rss(unlisted(ALL_RSS_TYPES)),
         ActionKind::Drop => Action::Drop,
         ActionKind::Jump => Action::Jump(value as u32),
         ActionKind::Mark => Action::Mark(value as u32),
@@ -146,7 +146,7 @@ impl TurnReader for Actions {
 
     /// An action and its `/`.
     fn take_turn(&mut self, words: &[&[u8]]) -> Option<usize> {
-        let Some((action, taken)) = take_action(words) else {
+        let Some((action, taken)) = take_action(ALL_RSS_TYPES, words) else {
             return None;
         };
         add_action(self, action);
@@ -155,38 +155,41 @@ impl TurnReader for Actions {
 }
 
 /// The action of a kind before anything inside it is read, and how many words it has behind its own: one that rules
-/// share has its id there.
-pub(crate) fn begin(kind: ActionKind, words: &[&[u8]]) -> Option<(Action, usize)>
+/// share has its id there. RSS has these types.
+fn begin(types: u8, kind: ActionKind, words: &[&[u8]]) -> Option<(Action, usize)>
     ensures value { option_map (λ begun. (begun.0, drop begun.1 (map (λ word. word.now) words.now))) result
-        ≡ spec.begun kind (map (λ word. word.now) words.now) }
+        ≡ spec.begun types kind (map (λ word. word.now) words.now) }
     ensures few { IfSome result (λ begun. begun.1 ≤ length words.now) }
 {
     if let ActionKind::Indirect = kind {
         let id = number_in_front(16, words)?;
         return Some((with_value(kind, id), 1));
     }
+    if let ActionKind::Rss = kind {
+        return Some((Action::Rss(unlisted(types)), 0));
+    }
     Some((with_value(kind, 0), 0))
 }
 
-/// An action up to its `/`, and how many words that is.
-fn take_action(words: &[&[u8]]) -> Option<(Action, usize)>
+/// An action up to its `/`, and how many words that is. RSS begins with these types.
+pub(crate) fn take_action(types: u8, words: &[&[u8]]) -> Option<(Action, usize)>
     ensures value { option_map (λ taken. (taken.0, drop taken.1 (map (λ word. word.now) words.now))) result
-        ≡ spec.action_of (map (λ word. word.now) words.now) }
+        ≡ spec.action_from types (map (λ word. word.now) words.now) }
     ensures few { IfSome result (λ taken. taken.1 ≤ length words.now) }
 {
     let (word, rest) = words.split_first()?;
     let kind = begun_by(word)?;
-    let (action, taken) = take_behind_word(kind, rest)?;
+    let (action, taken) = take_behind_word(types, kind, rest)?;
     Some((action, 1 + taken))
 }
 
 /// What stands behind the word of an action of a kind, up to its `/`, and how many words that is.
-fn take_behind_word(kind: ActionKind, words: &[&[u8]]) -> Option<(Action, usize)>
+fn take_behind_word(types: u8, kind: ActionKind, words: &[&[u8]]) -> Option<(Action, usize)>
     ensures value { option_map (λ taken. (taken.0, drop taken.1 (map (λ word. word.now) words.now))) result
-        ≡ spec.action_behind_word kind (map (λ word. word.now) words.now) }
+        ≡ spec.behind_word types kind (map (λ word. word.now) words.now) }
     ensures few { IfSome result (λ taken. taken.1 ≤ length words.now) }
 {
-    let (mut action, at) = begin(kind, words)?;
+    let (mut action, at) = begin(types, kind, words)?;
     let taken = read_up_to(b"/", &mut action, behind(at, words))?;
     Some((action, at + taken))
 }
@@ -196,7 +199,7 @@ pub fn read_action<'w, 'a>(words: &'w [&'a [u8]]) -> Option<(Action, &'w [&'a [u
     ensures { option_map (λ read. (read.0, map (λ word. word.now) read.1.now)) result
         ≡ spec.action_of (map (λ word. word.now) words.entry.now) }
 {
-    let (action, taken) = take_action(words)?;
+    let (action, taken) = take_action(ALL_RSS_TYPES, words)?;
     Some((action, behind(taken, words)))
 }
 

@@ -1,26 +1,16 @@
 //! The mask list of an actions template.
-ghost use Rattle.std.specs.Prelude.{◌≡◌, ◌≤◌, IfSome, length, drop, map, option_map};
+ghost use Rattle.std.specs.Prelude.{◌≡◌, map, option_map};
 ghost use Rattle.rule_words.specs.Masks as spec;
 
-use crate::actions::{begin, begun_by};
+use crate::actions::take_action;
 use crate::turns::{TurnReader, behind, read_up_to};
 use arrayvec::ArrayVec;
-use flow_actions::{Action, ActionKind, MAX_ACTIONS, Rss};
+use flow_actions::{Action, MAX_ACTIONS, Rss};
 use packet_headers::Edit;
 use rule_binding::Masks;
 
 /// The types of RSS of which no list is read yet: more than any list says.
 const NO_TYPES_SAID: u8 = 64;
-
-/// RSS of which no list is read yet.
-fn unsaid() -> Rss
-    ensures { result ≡ spec.unsaid }
-{
-    Rss {
-        queues: ArrayVec::new(),
-        types: NO_TYPES_SAID,
-    }
-}
 
 /// Whether a list was read that stands inside `rss`.
 fn is_said(rss: &Rss) -> bool
@@ -68,47 +58,12 @@ fn is_set(action: &Action) -> bool
     }
 }
 
-/// The action of a kind before anything inside it is read, and how many words it has behind its own.
-fn begin_mask(kind: ActionKind, words: &[&[u8]]) -> Option<(Action, usize)>
-    ensures value { option_map (λ begun. (begun.0, drop begun.1 (map (λ word. word.now) words.now))) result
-        ≡ spec.mask_begun kind (map (λ word. word.now) words.now) }
-    ensures few { IfSome result (λ begun. begun.1 ≤ length words.now) }
-{
-    if let ActionKind::Rss = kind {
-        return Some((Action::Rss(unsaid()), 0));
-    }
-    begin(kind, words)
-}
-
-/// What stands behind the word of an action of a kind, up to its `/`, and how many words that is.
-fn take_behind_word(kind: ActionKind, words: &[&[u8]]) -> Option<(Action, usize)>
-    ensures value { option_map (λ taken. (taken.0, drop taken.1 (map (λ word. word.now) words.now))) result
-        ≡ spec.mask_behind_word kind (map (λ word. word.now) words.now) }
-    ensures few { IfSome result (λ taken. taken.1 ≤ length words.now) }
-{
-    let (mut action, at) = begin_mask(kind, words)?;
-    let taken = read_up_to(b"/", &mut action, behind(at, words))?;
-    Some((action, at + taken))
-}
-
-/// An action of a mask list up to its `/`, and how many words that is.
-fn take_mask(words: &[&[u8]]) -> Option<(Action, usize)>
-    ensures value { option_map (λ taken. (taken.0, drop taken.1 (map (λ word. word.now) words.now))) result
-        ≡ spec.mask_of (map (λ word. word.now) words.now) }
-    ensures few { IfSome result (λ taken. taken.1 ≤ length words.now) }
-{
-    let (word, rest) = words.split_first()?;
-    let kind = begun_by(word)?;
-    let (action, taken) = take_behind_word(kind, rest)?;
-    Some((action, 1 + taken))
-}
-
 impl TurnReader for Masks {
     ghost turn = { spec.mask_turn };
 
     /// An action and its `/`.
     fn take_turn(&mut self, words: &[&[u8]]) -> Option<usize> {
-        let Some((action, taken)) = take_mask(words) else {
+        let Some((action, taken)) = take_action(NO_TYPES_SAID, words) else {
             return None;
         };
         add_mask(self, &action);

@@ -8,7 +8,7 @@ use crate::number::number_of_bits;
 use crate::turns::{TurnReader, read_up_to};
 use crate::vocabulary::meaning;
 use arrayvec::ArrayVec;
-use flow_actions::{ALL_RSS_TYPES, MAX_RSS_QUEUES, Rss};
+use flow_actions::{MAX_RSS_QUEUES, Rss};
 
 /// The lists that stand inside `rss`.
 #[derive(Clone, Copy)]
@@ -43,13 +43,13 @@ fn type_bit(word: &[u8]) -> Option<u8>
     meaning(&TYPES, word)
 }
 
-/// RSS of which nothing is said: without queues, and with all types.
-pub(crate) fn no_lists() -> Rss
-    ensures { result ≡ spec.no_lists }
+/// RSS without a list, of these types.
+pub(crate) fn unlisted(types: u8) -> Rss
+    ensures { result ≡ spec.unlisted types }
 {
     Rss {
         queues: ArrayVec::new(),
-        types: ALL_RSS_TYPES,
+        types,
     }
 }
 
