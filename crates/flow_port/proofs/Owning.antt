@@ -56,9 +56,19 @@ mine_is port s = refl
 pub mine_is_own : (port : FlowPort) (s : PortSeat) → IsSeatAt port s → books.mine history_in fixed_in owner_by port.book s.seat ≡ mine port s
 mine_is_own port s is = own_is_by port s (seen s) is ∙ mine_is port s
 
-pub mine_grows : (port : FlowPort) (old new : PortSeat) (gained : List Entry) → IsSeatAt port old → IsSeatAt port new
-    → books.mine history_in fixed_in owner_by port.book new.seat ≡ books.mine history_in fixed_in owner_by port.book old.seat ++ gained → mine port new ≡ mine port old ++ gained
-mine_grows port old new gained was is e = sym (mine_is_own port new is) ∙ e ∙ ap (λ l. l ++ gained) (mine_is_own port old was)
+-- the port's seat of a caller, behind a turn of the book's seat
+abbrev pub behind_turn : PortSeat → Seat Held Entry (Limits × List Caller) → PortSeat
+behind_turn old seat = record { seat = seat; caller = old.caller }
+
+-- it has the entries from before, and what it gained in the turn
+pub mine_grows : (port : FlowPort) (old : PortSeat) (seat : Seat Held Entry (Limits × List Caller)) (gained : List Entry) → IsSeatAt port old
+    → books.IsSeatOf history_in fixed_in port.book seat → seat.number ≡ old.seat.number
+    → books.mine history_in fixed_in owner_by port.book seat ≡ books.mine history_in fixed_in owner_by port.book old.seat ++ gained
+    → mine port (behind_turn old seat) ≡ mine port old ++ gained
+mine_grows port old seat gained was is same grew =
+    let new : IsSeatAt port (behind_turn old seat) =
+    record { seat = is; place = was.place ∙ sym same; known = subst (λ n. n < length (callers_of port)) (sym same) was.known; full = was.full } in
+    sym (mine_is_own port (behind_turn old seat) new) ∙ grew ∙ ap (λ l. l ++ gained) (mine_is_own port old was)
 
 -- over a turn of the book
 pub owns_more : (opened in_turn : Book Held Entry (Limits × List Caller)) (before during after : Seat Held Entry (Limits × List Caller)) (gained : List Entry) → in_turn ≡ opened

@@ -19,7 +19,7 @@ use Rattle.adapter.proofs.ChangesTold.{changes_of-passed}
 use Rattle.flow_port.specs.Bursts.{AreFit, passed_all, verdicts_by}
 use Rattle.flow_port.specs.Ports.{Grew}
 use Rattle.flow_port.specs.Standing.{Stands, IsCurrent}
-use Rattle.flow_port.proofs.Standing.{Stands-grown, flows-current}
+use Rattle.flow_port.proofs.Standing.{Stands-grown, Stands-grows, flows-current}
 
 pub passed_none : (caller : Caller) (ps : List Parcel) → passed_all caller ps [] ≡ []
 passed_none caller [] = refl
@@ -93,9 +93,7 @@ fit_count limits history caller ps vs entries fit = ap length fit.judged ∙ len
 -- the replica stands where it stood, and behind frames that were entered
 pub Stands_entered : {T E : Type 0} (result : Result T E) (old new : Seen) (entries : List Entry) (replica : ReplicaView)
     → OnOk result (Grows old new entries) → OnErr result (Stays old new) → Stands old.limits old.history replica → Stands new.limits new.history replica
-Stands_entered (Ok x) old new entries replica grows stays stands =
-    subst (λ (l : Limits). Stands l new.history replica) (sym grows.limits)
-    (subst (λ h. Stands old.limits h replica) (sym grows.history) (Stands-grown old.limits old.history entries replica stands))
+Stands_entered (Ok x) old new entries replica grows stays stands = Stands-grows old new entries replica grows stands
 Stands_entered (Err e) old new entries replica grows stays stands =
     subst (λ (l : Limits). Stands l new.history replica) (sym stays.limits) (subst (λ h. Stands old.limits h replica) (sym stays.history) stands)
 

@@ -12,6 +12,7 @@ use Rattle.replica.specs.Caught.{ReplicaView, caught_up}
 use Rattle.adapter.specs.declared.entry.Entry.{Entry}
 use Rattle.adapter.specs.Changes.{changes_behind, changes_of, flows_at}
 use Rattle.adapter.specs.State.{flows_of, opening, state_of}
+use Rattle.adapter.specs.Seen.{Seen, Grows}
 use Rattle.adapter.proofs.ChangesTold.{changes_of-append, flows_of-changes}
 use Rattle.turn_book.specs.Views.{BeginsWith}
 use Rattle.flow_port.specs.Standing.{Stands, IsCurrent}
@@ -28,6 +29,17 @@ Stands-grown limits old more replica stands =
       flows = stands.flows
           ∙ ap (fold changed (flows_of (opening limits))) (sym (take-append-le replica.version before others stands.behind) ∙ ap (take replica.version) (sym all));
     }
+
+-- the same of an adapter
+pub Stands-grows : (old new : Seen) (entries : List Entry) (replica : ReplicaView) → Grows old new entries → Stands old.limits old.history replica
+    → Stands new.limits new.history replica
+Stands-grows old new entries replica grows stands =
+    subst (λ (l : Limits). Stands l new.history replica) (sym grows.limits)
+    (subst (λ h. Stands old.limits h replica) (sym grows.history) (Stands-grown old.limits old.history entries replica stands))
+
+-- at no change, in a history without entries
+pub Stands-start : (limits : Limits) → Stands limits [] (record { limits = limits; version = 0; flows = flows_of (opening limits) })
+Stands-start limits = record { port = refl; behind = omega arith; flows = refl }
 
 -- it applied some of the changes that are left
 pub Stands-caught : (limits : Limits) (history : List Entry) (replica after : ReplicaView) (left list : List Change) (n : ℕ) → Stands limits history replica
