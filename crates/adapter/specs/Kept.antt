@@ -1,5 +1,5 @@
 -- What is kept of an entry, and the entry that it stands for.
-use Rattle.std.specs.Prelude.{◌≡◌, ℕ, List, [], ◌∷◌, None, Some}
+use Rattle.std.specs.Prelude.{◌≡◌, ℕ, ◌+◌, ◌*◌, List, [], ◌∷◌, None, Some}
 use Rattle.packet_headers.specs.declared.items.LayerAt.{LayerAt}
 use Rattle.packet_headers.specs.declared.stacks.Stack.{Stack}
 use Rattle.packet_headers.specs.declared.stacks.Tags.TheVariants as tags
@@ -37,7 +37,7 @@ stack_key stack = layers_of (record { outer = Some stack; tunnel = None })
 -- the headers of a frame with Ethernet and IPv4 alone
 abbrev pub plain_stack : Plain → Stack
 plain_stack p = record {
-  eth = record { dst = p.eth_dst; src = p.eth_src; ether_type = p.ether_type; has_vlan = p.has_vlan; offset = p.eth_offset };
+  eth = record { dst = p.dst_front * 65536 + p.dst_back; src = p.src_front * 65536 + p.src_back; ether_type = p.ether_type; has_vlan = p.has_vlan; offset = p.eth_offset };
   network = network.V4 p.network;
   tags = tags.None;
   transport = p.transport;

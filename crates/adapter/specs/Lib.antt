@@ -9,6 +9,7 @@ pub mod History
 pub mod HistoryInside
 pub mod Kept
 pub mod KeptHistory
+pub mod KeptLine
 pub mod KeptState
 pub mod PackedInside
 pub mod Raising

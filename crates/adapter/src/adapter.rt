@@ -1,13 +1,14 @@
 //! The adapter: the rules in effect, and the history of all that was asked and of all frames that passed.
-ghost use Rattle.std.specs.Prelude.{◌≡◌, ◌+◌, ◌<◌, ◌≤◌, ◌^◌, [], ◌∷◌, ◌++◌, true, length, drop, fold, slice_get, is_ok, All, Some, IfOk, OnOk, OnErr};
+ghost use Rattle.std.specs.Prelude.{◌≡◌, ◌+◌, ◌<◌, ◌≤◌, ◌^◌, [], ◌∷◌, ◌++◌, true, length, drop, fold, slice_get, is_ok, All, Some, IfSome, IfOk, OnOk, OnErr};
 ghost use Rattle.adapter.specs.declared.entry.Entry.TheVariants.{Asked, Passed};
+ghost use Rattle.adapter.specs.KeptLine.{IsLineOf};
 ghost use Rattle.adapter.specs.Seen.{Enters, Grows, Stays, entry_of};
 ghost use Rattle.adapter.specs.Spare.{no_spare, TakesFrames, TakesLine, Widens};
 
 use crate::call::Call;
 use crate::caller::Caller;
 use crate::change_list::ChangeList;
-use crate::entry::EntryView;
+use crate::entry::{EntryView, LineView};
 use crate::history::History;
 use crate::kept::keep_call;
 use crate::outcome::{Judged, judge};
@@ -192,6 +193,15 @@ impl Adapter {
         ensures { slice_get self.now.history place ≡ Some (entry_of result) }
     {
         self.history.entry(place as usize)
+    }
+
+    /// What a line tells of the entry at a place of the history, counted from 0.
+    #[inline]
+    pub fn line(&self, place: u64) -> LineView<'_>
+        requires { place < length self.now.history }
+        ensures { IfSome (slice_get self.now.history place) (IsLineOf result) }
+    {
+        self.history.line(place as usize)
     }
 
     /// The version: how many changes of what packets see the history has made.

@@ -1,14 +1,15 @@
 //! The list of entries.
-ghost use Rattle.std.specs.Prelude.{◌≡◌, ◌+◌, ◌<◌, ◌≤◌, ◌^◌, [], ◌∷◌, ◌++◌, true, length, slice_get, Some, OnOk, OnErr, is_ok};
+ghost use Rattle.std.specs.Prelude.{◌≡◌, ◌+◌, ◌<◌, ◌≤◌, ◌^◌, [], ◌∷◌, ◌++◌, true, length, slice_get, Some, IfSome, OnOk, OnErr, is_ok};
 ghost use Rattle.adapter.specs.declared.entry.Entry.TheVariants.{Passed};
 ghost use Rattle.adapter.specs.Kept.{entry_kept};
 ghost use Rattle.adapter.specs.KeptHistory.{IsReady, IsReadyForLine};
+ghost use Rattle.adapter.specs.KeptLine.{IsLineOf};
 ghost use Rattle.adapter.specs.Seen.{entry_of};
 ghost use Rattle.adapter.specs.Spare.{no_spare, TakesFrames, TakesLine, Widens};
 
 use crate::caller::Caller;
-use crate::entry::EntryView;
-use crate::kept::{Kept, Long, fill_stock, keep_frame, keep_in_stock, show};
+use crate::entry::{EntryView, LineView};
+use crate::kept::{Kept, Long, fill_stock, keep_frame, keep_in_stock, show, show_line};
 use crate::parcel::Parcel;
 use crate::spare::Spare;
 use flow_actions::Verdict;
@@ -169,5 +170,13 @@ impl History {
         ensures { slice_get self.now.entries place ≡ Some (entry_of result) }
     {
         show(&self.items[place])
+    }
+
+    #[inline]
+    pub(crate) fn line(&self, place: usize) -> LineView<'_>
+        requires { place < length self.now.entries }
+        ensures { IfSome (slice_get self.now.entries place) (IsLineOf result) }
+    {
+        show_line(&self.items[place])
     }
 }

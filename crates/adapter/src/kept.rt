@@ -2,12 +2,12 @@
 //!
 //! A history has an entry for each frame, a million of them in the largest, so its size is what these entries take. Most
 //! frames have Ethernet and IPv4 without tags or VXLAN, and a way of at most two rules: such an entry is kept in place,
-//! in 88 bytes. The headers of a frame with tags, with IPv6 or of another kind lie in a box of their own, the key of a
+//! in 80 bytes. The headers of a frame with tags, with IPv6 or of another kind lie in a box of their own, the key of a
 //! frame with VXLAN or with no headers in a larger one. A call lies in a box, and so does all that is known of a frame
 //! with a longer way.
 //!
 //! How a frame is kept follows from the frame and its verdict alone, so whoever has both can do it before its turn comes.
-ghost use Rattle.std.specs.Prelude.{◌≡◌, IfOk, IfSome};
+ghost use Rattle.std.specs.Prelude.{◌≡◌, ◌<◌, ◌^◌, ◌/◌, ◌%◌, IfOk, IfSome};
 ghost use Rattle.adapter.specs.declared.entry.Entry.TheVariants.{Asked, Passed};
 ghost use Rattle.adapter.specs.Kept.{entry_kept, entry_with, stack_key, ids_of, IsHead, IsPlain};
 
@@ -22,10 +22,13 @@ use crate::reply::Reply;
 use arrayvec::ArrayVec;
 use flow_actions::{Fate, MAX_PATH, Verdict};
 use packet_headers::{Ipv4, Key, Network, Stack, Tags, Transport};
-pub(crate) use shown::show;
+pub(crate) use shown::{show, show_line};
 use std::alloc::{AllocError, Global};
 pub(crate) use stock::{fill_stock, keep_in_stock};
 pub(crate) use tallies::{Tally, tally_of};
+
+/// The greatest hardware address: 48 bits.
+const MAX_ADDRESS: u64 = 281_474_976_710_655;
 
 /// A call and its reply.
 #[derive(Drop)]
@@ -55,15 +58,17 @@ pub(crate) struct Head {
     pub(crate) caller: Caller,
 }
 
-/// A frame with Ethernet and IPv4, without tags and VXLAN. The Ethernet header stands field by field, and the head in
-/// the middle, so that no padding lies between.
+/// A frame with Ethernet and IPv4, without tags and VXLAN. The Ethernet header stands field by field, each address in
+/// two parts, and the head in the middle, so that no padding lies between and no field is wider than 4 bytes.
 #[derive(Clone, Copy)]
 pub(crate) struct Plain {
-    pub(crate) eth_dst: u64,
-    pub(crate) eth_src: u64,
+    pub(crate) dst_front: u32,
+    pub(crate) src_front: u32,
     pub(crate) network: Ipv4,
     pub(crate) head: Head,
     pub(crate) transport: Transport,
+    pub(crate) dst_back: u16,
+    pub(crate) src_back: u16,
     pub(crate) ether_type: u16,
     pub(crate) has_vlan: bool,
     pub(crate) eth_offset: u8,
@@ -89,7 +94,7 @@ pub(crate) enum Kept {
 }
 
 // An entry is kept for each frame of a history, and beside it the headers of a frame with tags or IPv6, or a call.
-const _: () = prove!(size_of::<Kept>() <= 88);
+const _: () = prove!(size_of::<Kept>() <= 80);
 
 const _: () = prove!(size_of::<Stack>() <= 104);
 
@@ -213,6 +218,23 @@ fn stack_of(key: &Key) -> Option<Stack>
     key.outer
 }
 
+/// The first four bytes of a hardware address.
+#[inline]
+fn front_of(address: u64) -> u32
+    requires { address < 2 ^ 48 }
+    ensures { result ≡ address / 65536 }
+{
+    (address / 65_536) as u32
+}
+
+/// Its last two bytes.
+#[inline]
+fn back_of(address: u64) -> u16
+    ensures { result ≡ address % 65536 }
+{
+    (address % 65_536) as u16
+}
+
 /// A frame with Ethernet and IPv4 alone.
 fn plain_of(head: &Head, key: &Key) -> Option<Plain>
     ensures { IfSome result (λ plain. IsPlain head.now key.now plain) }
@@ -229,12 +251,17 @@ fn plain_of(head: &Head, key: &Key) -> Option<Plain>
     let Network::V4(network) = &stack.network else {
         return None;
     };
+    if stack.eth.dst > MAX_ADDRESS || stack.eth.src > MAX_ADDRESS {
+        return None;
+    }
     Some(Plain {
-        eth_dst: stack.eth.dst,
-        eth_src: stack.eth.src,
+        dst_front: front_of(stack.eth.dst),
+        src_front: front_of(stack.eth.src),
         network: *network,
         head: *head,
         transport: stack.transport,
+        dst_back: back_of(stack.eth.dst),
+        src_back: back_of(stack.eth.src),
         ether_type: stack.eth.ether_type,
         has_vlan: stack.eth.has_vlan,
         eth_offset: stack.eth.offset,

@@ -40,8 +40,8 @@
 //! what rules do to frames stands in `flow_rules`. A later command adds a case to `State`, `Changes` and `Reply`; nothing
 //! above these words looks inside.
 //!
-//! Entries of frames are many, so what is kept of them is small (`kept`): `entry` makes the frame and its verdict anew. A
-//! call lies in a box of its own.
+//! Entries of frames are many, so what is kept of them is small (`kept`): `entry` makes the frame and its verdict anew, and
+//! `line` what a line tells of them. A call lies in a box of its own.
 //!
 //! Not done here: reading scripts or captures, printing, threads.
 #![tactic(auto)]
@@ -72,7 +72,7 @@ mod templates;
 pub use adapter::Adapter;
 pub use call::{ActionLists, At, BadKind, Call, Op, TableTemplates};
 pub use caller::Caller;
-pub use entry::{Entry, EntryView};
+pub use entry::{Entry, EntryView, LineView};
 pub use laws::{
     changes_are_lawful, changes_are_what_packets_see, changes_begin_with_those_of_a_front,
     equal_changes_give_equal_flows, frames_change_nothing,

@@ -6,6 +6,8 @@ ghost use Rattle.io_edges.specs.Faults.{HasCause};
 ghost use Rattle.io_edges.specs.Front.{TakesFront};
 ghost use Rattle.io_edges.specs.Gather.{gather_of};
 ghost use Rattle.io_edges.specs.Prints.{Prints};
+ghost use Rattle.adapter.specs.declared.entry.Entry.{Entry};
+ghost use Rattle.adapter.specs.KeptLine.{IsLineOf};
 ghost use Rattle.adapter.specs.Seen.{entry_of};
 ghost use Rattle.history_text.specs.Text.{entry_text, end_text, text_of};
 
@@ -14,7 +16,7 @@ use crate::ending::{Ending, print_ending};
 use crate::reply::print_reply;
 use crate::totals::print_totals;
 use crate::verdict::print_verdict;
-use adapter::{Adapter, EntryView};
+use adapter::{Adapter, EntryView, LineView};
 use flow_rules::Limits;
 use io_edges::{Page, Sink, WriteFault, finish, print, print_number};
 
@@ -46,7 +48,7 @@ fn print_entries<K: Sink>(sink: &mut K, page: &mut Page, adapter: &Adapter)
 {
     let limits = adapter.limits();
     for place in 0..adapter.entries() {
-        print_entry(sink, page, limits, adapter.entry(place));
+        print_line(sink, page, limits, adapter.line(place));
     }
 }
 
@@ -56,8 +58,44 @@ pub fn print_entry<K: Sink>(sink: &mut K, page: &mut Page, limits: Limits, entry
     ensures { Prints (gather_of K.taken K.faults sink.old page.old)
         (gather_of K.taken K.faults sink.new page.new) (entry_text limits (entry_of entry.entry)) }
 {
+    print_line(sink, page, limits, line_of(entry));
+}
+
+/// What a line tells of an entry.
+fn line_of(entry: EntryView<'_>) -> LineView<'_>
+    ensures { IsLineOf result (entry_of entry.entry) }
+{
     match entry {
         EntryView::Asked {
+            caller,
+            call,
+            reply,
+        } => LineView::Asked {
+            caller,
+            call,
+            reply,
+        },
+        EntryView::Passed {
+            caller,
+            parcel,
+            verdict,
+        } => LineView::Passed {
+            caller,
+            number: parcel.number,
+            verdict,
+        },
+    }
+}
+
+/// Prints a line: the text of each entry that it can be of.
+#[inline]
+fn print_line<K: Sink>(sink: &mut K, page: &mut Page, limits: Limits, line: LineView<'_>)
+    requires { limits.rxq ≤ 16 }
+    ensures { (entry : Entry) → IsLineOf line.entry entry → Prints (gather_of K.taken K.faults sink.old page.old)
+        (gather_of K.taken K.faults sink.new page.new) (entry_text limits entry) }
+{
+    match line {
+        LineView::Asked {
             caller,
             call,
             reply,
@@ -71,14 +109,14 @@ pub fn print_entry<K: Sink>(sink: &mut K, page: &mut Page, limits: Limits, entry
             print_reply(sink, page, limits, reply);
             print(sink, page, b"\n");
         }
-        EntryView::Passed {
+        LineView::Passed {
             caller,
-            parcel,
+            number,
             verdict,
         } => {
             print_caller(sink, page, caller);
             print(sink, page, b" #");
-            print_number(sink, page, parcel.number);
+            print_number(sink, page, number);
             print(sink, page, b": ");
             print_verdict(sink, page, &verdict);
             print(sink, page, b"\n");

@@ -1,10 +1,12 @@
 //! How a kept entry is shown: a call is lent, and a frame is made anew from what is kept.
-ghost use Rattle.std.specs.Prelude.{◌≡◌};
+ghost use Rattle.std.specs.Prelude.{◌≡◌, ◌+◌, ◌*◌, List};
+ghost use Rattle.packet_headers.specs.declared.items.LayerAt.{LayerAt};
 ghost use Rattle.adapter.specs.Seen.{entry_of};
 ghost use Rattle.adapter.specs.Kept.{entry_kept, entry_with, plain_key, stack_key, verdict_in, ids_of};
+ghost use Rattle.adapter.specs.KeptLine.{IsLineOf};
 
 use super::{Head, Kept, Plain, Steps};
-use crate::entry::EntryView;
+use crate::entry::{EntryView, LineView};
 use crate::parcel::Parcel;
 use arrayvec::ArrayVec;
 use flow_actions::{MAX_PATH, Verdict};
@@ -31,6 +33,40 @@ pub(crate) fn show(kept: &Kept) -> EntryView<'_>
     }
 }
 
+/// What a line tells of the entry.
+#[inline]
+pub(crate) fn show_line(kept: &Kept) -> LineView<'_>
+    ensures { IsLineOf result (entry_kept kept.now) }
+{
+    match kept {
+        Kept::Asked(asked) => LineView::Asked {
+            caller: asked.caller,
+            call: &asked.call,
+            reply: &asked.reply,
+        },
+        Kept::Plain(plain) => line_of(&plain.head),
+        Kept::Stacked(head, _) => line_of(head),
+        Kept::Keyed(head, _) => line_of(head),
+        Kept::Long(long) => LineView::Passed {
+            caller: long.caller,
+            number: long.parcel.number,
+            verdict: same_verdict(&long.verdict),
+        },
+    }
+}
+
+/// What a line tells of a frame, whatever its key.
+#[inline]
+fn line_of<'a>(head: &Head) -> LineView<'a>
+    ensures { (key : List LayerAt) → IsLineOf result (entry_with head.now key) }
+{
+    LineView::Passed {
+        caller: head.caller,
+        number: head.number,
+        verdict: head.verdict(),
+    }
+}
+
 /// The entry of a frame of this key.
 fn show_frame<'a>(head: &Head, key: Key) -> EntryView<'a>
     ensures { entry_of result ≡ entry_with head.now key }
@@ -40,6 +76,13 @@ fn show_frame<'a>(head: &Head, key: Key) -> EntryView<'a>
         parcel: head.parcel(key),
         verdict: head.verdict(),
     }
+}
+
+/// A hardware address of two parts.
+fn address_of(front: u32, back: u16) -> u64
+    ensures { result ≡ front * 65536 + back }
+{
+    u64::from(front) * 65_536 + u64::from(back)
 }
 
 /// The key of a frame without VXLAN.
@@ -132,8 +175,8 @@ impl Plain {
     {
         key_with(&Stack {
             eth: Eth {
-                dst: self.eth_dst,
-                src: self.eth_src,
+                dst: address_of(self.dst_front, self.dst_back),
+                src: address_of(self.src_front, self.src_back),
                 ether_type: self.ether_type,
                 has_vlan: self.has_vlan,
                 offset: self.eth_offset,
