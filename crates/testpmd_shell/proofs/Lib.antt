@@ -6,7 +6,6 @@ pub mod PartsRun
 pub mod Asking
 pub mod ScriptSize
 pub mod Running
-pub mod Standing
 pub mod Telling
 pub mod Stopping
 pub mod Statuses

@@ -8,7 +8,6 @@ pub mod Transmitted
 pub mod Session
 pub mod Feed
 pub mod Sending
-pub mod Standing
 pub mod Phase
 pub mod Parts
 pub mod Fetch

@@ -7,12 +7,12 @@ ghost use Rattle.adapter.specs.History.{passed_by};
 ghost use Rattle.adapter.specs.Spare.{no_spare};
 ghost use Rattle.flow_rules.specs.Limits.{AreLimits};
 ghost use Rattle.flow_rules.specs.Walk.{verdict_of};
+ghost use Rattle.flow_port.specs.Standing.{Stands};
 ghost use Rattle.history_text.specs.Transmit.{delivered, record_behind};
 ghost use Rattle.whole_history.specs.Serial.{caller_at};
 ghost use Rattle.testpmd_shell.specs.Feed.{frame_in};
 ghost use Rattle.testpmd_shell.specs.Phase.{parcel_at};
 ghost use Rattle.testpmd_shell.specs.Sending.{record_of, records_kept, kept_in, flows_now, sent_by};
-ghost use Rattle.testpmd_shell.specs.Standing.{Stands};
 
 use crate::feed::Arrived;
 use crate::sent::Sent;
@@ -37,7 +37,7 @@ impl Lead {
     pub(crate) fn new(alloc: Global, limits: Limits, keeps: bool) -> Result<Lead, AllocError>
         requires { AreLimits limits }
         ensures adapter { IfOk result (λ lead. lead.adapter ≡ record { limits = limits; history = []; spare = no_spare }) }
-        ensures stands { IfOk result (λ lead. Stands lead.adapter lead.replica) }
+        ensures stands { IfOk result (λ lead. Stands lead.adapter.limits lead.adapter.history lead.replica) }
         ensures kept { IfOk result (λ lead. kept_in lead ≡ (if keeps then Some [] else None)) }
     {
         let adapter = Adapter::new(alloc, limits)?;
@@ -59,11 +59,11 @@ impl Lead {
         frame: &[u8],
     ) -> Result<(), AllocError>
         requires short { length frame.now ≤ 262_144 }
-        requires stands { Stands self.old.adapter self.old.replica }
+        requires stands { Stands self.old.adapter.limits self.old.adapter.history self.old.replica }
         ensures enters { OnOk result (Enters self.old.adapter self.new.adapter
             (passed_by self.old.adapter.limits self.old.adapter.history (caller_at 9) (parcel_at number frame.now))) }
         ensures kept { OnOk result (kept_in self.new ≡ append_known (kept_in self.old) (sent_by (flows_now self.old.adapter) arrived frame.now)) }
-        ensures stands { OnOk result (Stands self.new.adapter self.new.replica) }
+        ensures stands { OnOk result (Stands self.new.adapter.limits self.new.adapter.history self.new.replica) }
         ensures limits { self.new.adapter.limits ≡ self.old.adapter.limits }
     {
         catch_up(&self.adapter, &mut self.replica)?;
@@ -88,8 +88,8 @@ impl Lead {
 
 /// Brings a copy of what packets see up to the adapter's version.
 fn catch_up(adapter: &Adapter, replica: &mut Replica) -> Result<(), AllocError>
-    requires stands { Stands adapter.now replica.old }
-    ensures stands { OnOk result (Stands adapter.now replica.new) }
+    requires stands { Stands adapter.now.limits adapter.now.history replica.old }
+    ensures stands { OnOk result (Stands adapter.now.limits adapter.now.history replica.new) }
     ensures now { OnOk result (replica.new.flows ≡ flows_now adapter.now) }
 {
     let version = replica.version();

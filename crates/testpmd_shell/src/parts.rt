@@ -7,9 +7,9 @@ ghost use Rattle.io_edges.specs.LentLaws.{KeepsSlot-none};
 ghost use Rattle.whole_history.specs.Reach.{is_phase, has_phase};
 ghost use Rattle.whole_history.specs.Serial.{asks_of};
 ghost use Rattle.adapter.specs.Seen.{Grows};
+ghost use Rattle.flow_port.specs.Standing.{Stands};
 ghost use Rattle.testpmd_shell.specs.Feed.{CarriesFault};
 ghost use Rattle.testpmd_shell.specs.Sending.{kept_in};
-ghost use Rattle.testpmd_shell.specs.Standing.{Stands};
 ghost use Rattle.testpmd_shell.specs.Parts.{IsOpen, WasRead, TakesIn, RunsPart, RunsParts, ending_in};
 
 use crate::ask::{ask_agents, ask_all};
@@ -38,12 +38,12 @@ fn take_frames<S: Shelf>(
     count: Option<u32>,
 ) -> Result<(), AllocError>
     requires open { IsOpen feed.old (S.state shelf.old) }
-    requires stands { Stands lead.old.adapter lead.old.replica }
+    requires stands { Stands lead.old.adapter.limits lead.old.adapter.history lead.old.replica }
     ensures open { IsOpen feed.new (S.state shelf.new) }
     ensures takes { OnOk result ((content : List ℕ) → (frames : List Frame) → WasRead feed.old (S.state shelf.old) content frames
         → TakesIn count feed.old feed.new (S.state shelf.new) content frames lead.old.adapter lead.new.adapter (kept_in lead.old) (kept_in lead.new)) }
     ensures fault { CarriesFault (ending_in feed.old) (ending_in feed.new) (S.state shelf.old).capture.faults (S.state shelf.new).capture.faults }
-    ensures stands { OnOk result (Stands lead.new.adapter lead.new.replica) }
+    ensures stands { OnOk result (Stands lead.new.adapter.limits lead.new.adapter.history lead.new.replica) }
     ensures kept { OnOk result (is_some (kept_in lead.new) ≡ is_some (kept_in lead.old)) }
     ensures limits { lead.new.adapter.limits ≡ lead.old.adapter.limits }
     ensures keeps { KeepsSlot Slot.Capture (S.state shelf.old) (S.state shelf.new) }
@@ -62,12 +62,12 @@ fn run_part<S: Shelf>(
     feed: &mut Option<Feed>,
 ) -> Result<(), AllocError>
     requires open { IsOpen feed.old (S.state shelf.old) }
-    requires stands { Stands lead.old.adapter lead.old.replica }
+    requires stands { Stands lead.old.adapter.limits lead.old.adapter.history lead.old.replica }
     ensures open { IsOpen feed.new (S.state shelf.new) }
     ensures runs { OnOk result ((content : List ℕ) → (frames : List Frame) → WasRead feed.old (S.state shelf.old) content frames
         → RunsPart part.now feed.old feed.new (S.state shelf.new) content frames lead.old.adapter lead.new.adapter (kept_in lead.old) (kept_in lead.new)) }
     ensures fault { CarriesFault (ending_in feed.old) (ending_in feed.new) (S.state shelf.old).capture.faults (S.state shelf.new).capture.faults }
-    ensures stands { OnOk result (Stands lead.new.adapter lead.new.replica) }
+    ensures stands { OnOk result (Stands lead.new.adapter.limits lead.new.adapter.history lead.new.replica) }
     ensures kept { OnOk result (is_some (kept_in lead.new) ≡ is_some (kept_in lead.old)) }
     ensures limits { lead.new.adapter.limits ≡ lead.old.adapter.limits }
     ensures keeps { KeepsSlot Slot.Capture (S.state shelf.old) (S.state shelf.new) }
@@ -99,12 +99,12 @@ pub(crate) fn run_parts<S: Shelf>(
     feed: &mut Option<Feed>,
 ) -> Result<(), AllocError>
     requires open { IsOpen feed.old (S.state shelf.old) }
-    requires stands { Stands lead.old.adapter lead.old.replica }
+    requires stands { Stands lead.old.adapter.limits lead.old.adapter.history lead.old.replica }
     ensures open { IsOpen feed.new (S.state shelf.new) }
     ensures runs { OnOk result ((content : List ℕ) → (frames : List Frame) → WasRead feed.old (S.state shelf.old) content frames
         → RunsParts program.now feed.old feed.new (S.state shelf.new) content frames lead.old.adapter lead.new.adapter (kept_in lead.old) (kept_in lead.new)) }
     ensures fault { CarriesFault (ending_in feed.old) (ending_in feed.new) (S.state shelf.old).capture.faults (S.state shelf.new).capture.faults }
-    ensures stands { OnOk result (Stands lead.new.adapter lead.new.replica) }
+    ensures stands { OnOk result (Stands lead.new.adapter.limits lead.new.adapter.history lead.new.replica) }
     ensures kept { OnOk result (is_some (kept_in lead.new) ≡ is_some (kept_in lead.old)) }
     ensures limits { lead.new.adapter.limits ≡ lead.old.adapter.limits }
     ensures keeps { KeepsSlot Slot.Capture (S.state shelf.old) (S.state shelf.new) }

@@ -4,10 +4,10 @@ ghost use Rattle.capture_files.specs.Record.{Frame};
 ghost use Rattle.io_edges.specs.ShelfState.{ShelfState};
 ghost use Rattle.io_edges.specs.Lent.{KeepsSlot};
 ghost use Rattle.io_edges.specs.LentLaws.{KeepsSlot-none};
+ghost use Rattle.flow_port.specs.Standing.{Stands};
 ghost use Rattle.testpmd_shell.specs.Feed.{IsReady, HasRead, CarriesFault};
 ghost use Rattle.testpmd_shell.specs.Phase.{is_spent, one_less, Takes};
 ghost use Rattle.testpmd_shell.specs.Sending.{kept_in};
-ghost use Rattle.testpmd_shell.specs.Standing.{Stands};
 
 use crate::feed::{Feed, next_frame};
 use crate::lead::Lead;
@@ -44,12 +44,12 @@ pub(crate) fn pass_frames<S: Shelf>(
 ) -> Result<(), AllocError>
     requires ready { IsReady feed.old }
     requires opened { (S.state shelf.old).capture.opened ≡ true }
-    requires stands { Stands lead.old.adapter lead.old.replica }
+    requires stands { Stands lead.old.adapter.limits lead.old.adapter.history lead.old.replica }
     ensures ready { IsReady feed.new }
     ensures takes { OnOk result ((content : List ℕ) → (frames : List Frame) → HasRead feed.old (S.state shelf.old).capture content frames
         → Takes count feed.old feed.new (S.state shelf.new).capture content frames lead.old.adapter lead.new.adapter (kept_in lead.old) (kept_in lead.new)) }
     ensures fault { CarriesFault feed.old.ending feed.new.ending (S.state shelf.old).capture.faults (S.state shelf.new).capture.faults }
-    ensures stands { OnOk result (Stands lead.new.adapter lead.new.replica) }
+    ensures stands { OnOk result (Stands lead.new.adapter.limits lead.new.adapter.history lead.new.replica) }
     ensures kept { OnOk result (is_some (kept_in lead.new) ≡ is_some (kept_in lead.old)) }
     ensures limits { lead.new.adapter.limits ≡ lead.old.adapter.limits }
     ensures keeps { KeepsSlot Slot.Capture (S.state shelf.old) (S.state shelf.new) }

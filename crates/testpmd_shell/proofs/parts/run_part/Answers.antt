@@ -4,10 +4,10 @@ use Rattle.adapter.specs.declared.call.Call.{Call}
 use Rattle.adapter.specs.Seen.{Grows}
 use Rattle.flow_grammar.specs.declared.part.Part.{Part}
 use Rattle.whole_history.specs.Serial.{asks_of}
+use Rattle.flow_port.proofs.Standing.{Stands-grows}
 use Rattle.testpmd_shell.specs.Sending.{kept_in}
 use Rattle.testpmd_shell.specs.Parts.{RunsPart}
 use Rattle.testpmd_shell.proofs.PartsRun.{RunsPart-section, RunsPart-phase}
-use Rattle.testpmd_shell.proofs.Standing.{Stands-grown}
 use Rattle.testpmd_shell.proofs.parts.run_part.Goals as goal
 
 pub returns-in-Section-clause-runs : goal.returns-in-Section-clause-runs
@@ -51,12 +51,12 @@ returns-in_ok-take_frames-in-Phase-clause-runs g c =
 pub returns-in-Section-clause-stands : goal.returns-in-Section-clause-stands
 returns-in-Section-clause-stands g c =
     on_ok_weaker c.ask_all.result
-    (λ asks. Stands-grown c.args.lead.now.adapter c.ask_all.new.adapter _ c.args.lead.now.replica asks c.requires.stands) c.ask_all.ensures.asks
+    (λ asks. Stands-grows c.args.lead.now.adapter c.ask_all.new.adapter _ c.args.lead.now.replica asks c.requires.stands) c.ask_all.ensures.asks
 
 pub returns-in_ok-take_frames-in-Phase-clause-stands : goal.returns-in_ok-take_frames-in-Phase-clause-stands
 returns-in_ok-take_frames-in-Phase-clause-stands g c =
     on_ok_weaker c.ask-in-Phase.result
-    (λ asks. Stands-grown c.take_frames.new.lead.adapter c.ask-in-Phase.new.adapter _ c.take_frames.new.lead.replica asks c.in_ok-take_frames-in-Phase.ensures.stands)
+    (λ asks. Stands-grows c.take_frames.new.lead.adapter c.ask-in-Phase.new.adapter _ c.take_frames.new.lead.replica asks c.in_ok-take_frames-in-Phase.ensures.stands)
     c.ask-in-Phase.ensures.asks
 
 pub take_frames-requires-clause-stands : goal.take_frames-requires-clause-stands
@@ -66,6 +66,6 @@ take_frames-requires-clause-stands g c =
     let s1 = c.ask.new.adapter in
     let s2 = c.ask_all-in-Phase.new.adapter in
     let s3 = c.ask_agents.new.adapter in
-    Stands-grown s2 s3 _ replica c.in_ok-ask_agents-in-Phase.ensures.asks
-    (Stands-grown s1 s2 _ replica c.in_ok-ask_all-in-Phase.ensures.asks
-    (Stands-grown s0 s1 _ replica c.in_ok-ask-in-Phase.ensures.asks c.requires.stands))
+    Stands-grows s2 s3 _ replica c.in_ok-ask_agents-in-Phase.ensures.asks
+    (Stands-grows s1 s2 _ replica c.in_ok-ask_all-in-Phase.ensures.asks
+    (Stands-grows s0 s1 _ replica c.in_ok-ask-in-Phase.ensures.asks c.requires.stands))

@@ -6,10 +6,10 @@ use Rattle.packet_headers.specs.Layers.{layers}
 use Rattle.flow_actions.specs.declared.verdict.Verdict.{Verdict}
 use Rattle.flow_rules.specs.Walk.{Flows, verdict_of}
 use Rattle.history_text.specs.Transmit.{delivered}
+use Rattle.flow_port.proofs.Standing.{Stands-grows}
 use Rattle.testpmd_shell.specs.declared.feed.Arrived.{Arrived}
 use Rattle.testpmd_shell.specs.Feed.{frame_in}
 use Rattle.testpmd_shell.specs.Sending.{kept_in, flows_now, sent_by}
-use Rattle.testpmd_shell.proofs.Standing.{Stands-grown}
 use Rattle.testpmd_shell.proofs.lead.Lead.pass.Goals as goal
 
 -- what goes out by the copy goes out by what packets see
@@ -34,5 +34,5 @@ returns-clause-kept c =
 pub returns-clause-stands : goal.returns-clause-stands
 returns-clause-stands c =
     on_ok_weaker c.packet.result
-    (λ entered. Stands-grown c.args.self.now.adapter c.packet.new.self _ c.catch_up.new.replica entered c.in_ok-catch_up.ensures.stands)
+    (λ entered. Stands-grows c.args.self.now.adapter c.packet.new.self _ c.catch_up.new.replica entered c.in_ok-catch_up.ensures.stands)
     c.packet.ensures.entered
