@@ -4,3 +4,4 @@ pub mod Closing
 pub mod Making
 pub mod Standing
 pub mod Passing
+pub mod Numbers
