@@ -9,6 +9,9 @@ module _ {X : Type 0} where
   pub take-more : (xs : List X) (k : ℕ) (x : X) → slice_get (drop k xs) 0 ≡ Some x → take k xs ++ x ∷ [] ≡ take (k + 1) xs
   take-more xs k x h = grind (arith, common_steps, gets)
 
+  pub take-at : (xs : List X) (k : ℕ) (x : X) → slice_get xs k ≡ Some x → take k xs ++ x ∷ [] ≡ take (k + 1) xs
+  take-at xs k x h = grind (arith, common_steps, gets)
+
   -- where no item is left, the first k are all
   length-past : (xs : List X) (k : ℕ) → slice_get (drop k xs) 0 ≡ None → length xs ≤ k
   length-past xs k h = grind (arith, common_steps, gets)

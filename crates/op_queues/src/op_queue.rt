@@ -1,5 +1,6 @@
 //! `OpQueue`.
-ghost use Rattle.std.specs.Prelude.{◌≡◌, ◌+◌, ◌-◌, ◌<◌, ◌≤◌, ◌↔◌, [], ◌∷◌, ◌++◌, length, take, drop, IsErr, IsNone, IfOk, IfErr, OnOk, IfSome, OnSome, IfNone};
+ghost use Rattle.std.specs.Prelude.{◌≡◌, ◌+◌, ◌-◌, ◌<◌, ◌≤◌, ◌↔◌, [], ◌∷◌, ◌++◌, length, take, drop, slice_get, IsErr, IsNone, IfOk, IfErr, OnOk, IfSome, OnSome, IfNone};
+ghost use Rattle.std.specs.Option.{option_copied};
 ghost use Rattle.circular_buffer.specs.Buffer.{buffer};
 ghost use Rattle.op_queues.specs.OpQueue.{empty_queue, in_flight};
 
@@ -90,6 +91,35 @@ impl<T> OpQueue<T> {
         self.results.try_push_back(ok).unwrap();
     }
 
+    /// Returns how many operations are held.
+    pub fn held_len(&self) -> u16
+        ensures number { result ≡ length self.now.held }
+        ensures within { result ≤ 1024 }
+    {
+        self.held.len() as u16
+    }
+
+    /// Lends the oldest held operation.
+    pub fn oldest(&self) -> Option<&T>
+        ensures { option_copied result ≡ slice_get self.now.held 0 }
+    {
+        self.held.front()
+    }
+
+    /// Lends the held operations, the oldest first: those of the first slice, and then those of the second.
+    pub fn held(&self) -> (&[T], &[T])
+        ensures { result.0.now ++ result.1.now ≡ self.now.held }
+    {
+        self.held.as_slices()
+    }
+
+    /// Tells the results that wait, and leaves them there.
+    pub fn results(&self) -> Outcomes
+        ensures { result ≡ self.now.results }
+    {
+        copy_of(&self.results)
+    }
+
     /// Removes the first `n` results, or all where fewer wait, in time of their number.
     pub fn pull(&mut self, n: u16) -> Outcomes
         ensures outcomes { result ≡ take n self.old.results }
@@ -113,6 +143,19 @@ fn take_first(results: &mut HeapCircularBuffer<bool>, n: u16) -> Outcomes
             break;
         };
         outcomes.push(ok);
+    }
+    outcomes
+}
+
+/// The results, in order.
+fn copy_of(results: &HeapCircularBuffer<bool>) -> Outcomes
+    requires { length results.now.items ≤ 1024 }
+    ensures { result ≡ results.now.items }
+{
+    let mut outcomes = Outcomes::new();
+    for place in 0..results.len() {
+        let ok = results.get(place).unwrap();
+        outcomes.push(*ok);
     }
     outcomes
 }
