@@ -7,15 +7,15 @@ use Rattle.flow_rules.specs.declared.limits.Limits.{Limits}
 use Rattle.flow_rules.specs.Limits.{AreLimits}
 use Rattle.flow_rules.specs.OnPort.{IsBelow}
 use Rattle.flow_rules.specs.Walk.{verdict_of}
-use Rattle.adapter.specs.declared.entry.Entry.{Entry}
-use Rattle.adapter.specs.declared.entry.Entry.TheVariants.{Asked, Passed}
+use Rattle.flow_calls.specs.declared.entry.Entry.{Entry}
+use Rattle.flow_calls.specs.declared.entry.Entry.TheVariants.{Asked, Passed}
 use Rattle.adapter.specs.declared.kept.tallies.Tally.{Tally}
 use Rattle.adapter.specs.declared.spare.Spare.{Spare}
 use Rattle.adapter.specs.History.{IsFrame}
 use Rattle.adapter.specs.KeptHistory.{KeptHistory, IsReady}
 use Rattle.adapter.specs.Sound.{Sound, AreTold}
-use Rattle.adapter.specs.Standing.{Standing, Counts}
-use Rattle.adapter.specs.State.{State, flows_of}
+use Rattle.port_state.specs.Standing.{Standing, Counts}
+use Rattle.port_state.specs.State.{State, flows_of}
 use Rattle.adapter.specs.Tallies.{Tallies}
 use Rattle.adapter.proofs.ChangesTold.{AreTold-passed}
 use Rattle.adapter.proofs.SoundGrowth.{Sound-passed, IsBelow-verdict, state_of-push}

@@ -33,17 +33,17 @@ use Rattle.indirect_counters.specs.Counts.{no_count}
 use Rattle.indirect_counters.specs.Refusals as shared_calls
 use Rattle.indirect_counters.proofs.Creating.{CanAdd-clear, IsSharedOn-created, IsSharedOn-updated, update-clear, kind-kept}
 use Rattle.indirect_counters.proofs.Unused.{least_unused-free}
-use Rattle.adapter.specs.declared.caller.Caller.{Caller}
-use Rattle.adapter.specs.declared.parcel.Parcel.{Parcel}
-use Rattle.adapter.specs.declared.call.Op.{Op}
-use Rattle.adapter.specs.declared.call.Op.TheVariants as ops
-use Rattle.adapter.specs.declared.entry.Entry.{Entry}
-use Rattle.adapter.specs.declared.entry.Entry.TheVariants.{Asked, Passed}
-use Rattle.adapter.specs.Changes.{HasFewActions, change_unless_refused, changes_by, changes_in, changes_behind, changes_of, flows_at}
+use Rattle.flow_calls.specs.declared.caller.Caller.{Caller}
+use Rattle.flow_calls.specs.declared.parcel.Parcel.{Parcel}
+use Rattle.flow_calls.specs.declared.call.Op.{Op}
+use Rattle.flow_calls.specs.declared.call.Op.TheVariants as ops
+use Rattle.flow_calls.specs.declared.entry.Entry.{Entry}
+use Rattle.flow_calls.specs.declared.entry.Entry.TheVariants.{Asked, Passed}
+use Rattle.port_state.specs.Changes.{HasFewActions, change_unless_refused, changes_by, changes_in, changes_behind, changes_of, flows_at}
 use Rattle.adapter.specs.Sound.{AreTold}
-use Rattle.adapter.specs.State.{State, Placed, opening, flows_of, rule_in, kinds_in, objects, is_plain, is_user, is_in_effect, create_fault, room_fault, state_of, state_behind}
-use Rattle.adapter.proofs.StateKept.{IsUnder, IsUnder-behind, IsUnder-opening, IsFresh-under, is_in_table, are_its_changes, first_of-none, place-none}
-use Rattle.adapter.proofs.Objects.{object, any-count}
+use Rattle.port_state.specs.State.{State, Placed, opening, flows_of, rule_in, kinds_in, objects, is_plain, is_user, is_in_effect, create_fault, room_fault, state_of, state_behind}
+use Rattle.port_state.proofs.StateKept.{IsUnder, IsUnder-behind, IsUnder-opening, IsFresh-under, is_in_table, are_its_changes, first_of-none, place-none}
+use Rattle.port_state.proofs.Objects.{object, any-count}
 
 -- the changes of entries, one behind the other
 changes_behind-append : (limits : Limits) (s : State) (xs ys : List Entry)

@@ -3,9 +3,9 @@ use Rattle.std.proofs.Common.{◌≡◌, List, [], ◌∷◌, ◌++◌, fold, re
 use Rattle.std.proofs.lemmas.List.Sums.{fold-append}
 use Rattle.flow_rules.specs.declared.limits.Limits.{Limits}
 use Rattle.flow_rules.specs.declared.counter.Counter.{Counter}
-use Rattle.adapter.specs.declared.entry.Entry.{Entry}
-use Rattle.adapter.specs.State.{state_of, state_behind, opening}
-use Rattle.adapter.specs.Counters.{Counting, count_of, count_behind, counting_behind, zero_count}
+use Rattle.flow_calls.specs.declared.entry.Entry.{Entry}
+use Rattle.port_state.specs.State.{state_of, state_behind, opening}
+use Rattle.port_state.specs.Counters.{Counting, count_of, count_behind, counting_behind, zero_count}
 
 state-counting : (limits : Limits) (c : Counter) (at : Counting) (h : List Entry) → (fold (counting_behind limits c) at h).state ≡ fold (state_behind limits) at.state h
 state-counting limits c at [] = refl

@@ -1,12 +1,5 @@
 pub mod Bursts
-pub mod Carried
 pub mod ChangesTold
 pub mod CountsGrowth
-pub mod Entries
-pub mod Objects
-pub mod Rises
-pub mod RulesKept
 pub mod SoundGrowth
-pub mod StateKept
-pub mod TemplatesKept
 pub mod TotalsGrowth

@@ -8,33 +8,33 @@ use Rattle.flow_actions.specs.declared.verdict.Fate.{Fate}
 use Rattle.flow_actions.specs.declared.verdict.Fate.TheVariants as fates
 use Rattle.flow_rules.specs.declared.limits.Limits.{Limits}
 use Rattle.flow_rules.specs.Walk.{verdict_of, counters_of}
-use Rattle.adapter.specs.declared.caller.Caller.{Caller}
-use Rattle.adapter.specs.declared.call.Call.{Call}
-use Rattle.adapter.specs.declared.call.Op.{Op}
-use Rattle.adapter.specs.declared.parcel.Parcel.{Parcel}
-use Rattle.adapter.specs.declared.reply.Totals.{Totals}
-use Rattle.adapter.specs.declared.entry.Entry.{Entry}
-use Rattle.adapter.specs.declared.entry.Entry.TheVariants.{Asked, Passed}
-use Rattle.adapter.specs.State.{State, state_of, state_behind, opening, flows_of, rule_in, next_state}
-use Rattle.adapter.specs.declared.call.Op.TheVariants as ops
+use Rattle.flow_calls.specs.declared.caller.Caller.{Caller}
+use Rattle.flow_calls.specs.declared.call.Call.{Call}
+use Rattle.flow_calls.specs.declared.call.Op.{Op}
+use Rattle.flow_calls.specs.declared.parcel.Parcel.{Parcel}
+use Rattle.flow_calls.specs.declared.reply.Totals.{Totals}
+use Rattle.flow_calls.specs.declared.entry.Entry.{Entry}
+use Rattle.flow_calls.specs.declared.entry.Entry.TheVariants.{Asked, Passed}
+use Rattle.port_state.specs.State.{State, state_of, state_behind, opening, flows_of, rule_in, next_state}
+use Rattle.flow_calls.specs.declared.call.Op.TheVariants as ops
 use Rattle.flow_rules.specs.declared.counter.Counter.{Counter}
 use Rattle.flow_rules.specs.declared.counter.Counter.TheVariants as counters
 use Rattle.flow_rules.specs.declared.counter.Count.{Count}
 use Rattle.flow_rules.specs.Naming.{rule_at, namings_at}
 use Rattle.flow_rules.specs.Shared.{shared_at}
 use Rattle.flow_rules.proofs.Namings.{named-by_path}
-use Rattle.adapter.specs.Counters.{zero_count, counted_more, is_counter, is_there, while_there, count_of}
-use Rattle.adapter.specs.Raising.{HasRoomFor}
-use Rattle.adapter.specs.Totals.{totals_of}
-use Rattle.adapter.specs.Standing.{Standing, standing_of, Counts}
-use Rattle.adapter.specs.Reply.{answer_of, reply_to, reply_to_query, reply_to_shared_query}
+use Rattle.port_state.specs.Counters.{zero_count, counted_more, is_counter, is_there, while_there, count_of}
+use Rattle.port_state.specs.Raising.{HasRoomFor}
+use Rattle.flow_calls.specs.Totals.{totals_of}
+use Rattle.port_state.specs.Standing.{Standing, standing_of, Counts}
+use Rattle.port_state.specs.Reply.{answer_of, reply_to, reply_to_query, reply_to_shared_query}
 use Rattle.adapter.proofs.CountsGrowth.{count_of-push, count_of-nil}
 use Rattle.flow_rules.specs.OnPort.{IsBelow}
-use Rattle.adapter.specs.Counted.{counted, HasRoom}
+use Rattle.port_state.specs.Counted.{counted, HasRoom}
 use Rattle.adapter.specs.History.{IsLegalBehind, IsRight}
 use Rattle.flow_rules.specs.Limits.{AreLimits}
 use Rattle.adapter.specs.Sound.{Sound}
-use Rattle.adapter.proofs.StateKept.{IsUnder, IsUnder-state_of}
+use Rattle.port_state.proofs.StateKept.{IsUnder, IsUnder-state_of}
 use Rattle.flow_rules.proofs.FatesBelow.{verdict-below}
 use Rattle.adapter.proofs.TotalsGrowth.{totals_of-asked, totals_of-passed, totals_of-room, totals_of-nil}
 

@@ -5,19 +5,19 @@ use Rattle.std.proofs.lemmas.List.Sums.{sum_by-append, count_by-le-length}
 use Rattle.std.proofs.lemmas.List.FromFn.{fill_by_all, get_or-map-range_with_len, length-map-range_with_len}
 use Rattle.std.proofs.lemmas.List.{get_or-set_same, get_or-set_other, length-set}
 use Rattle.std.proofs.lemmas.Bool.Decides.{eqb_tells}
-use Rattle.adapter.specs.declared.caller.Caller.{Caller}
-use Rattle.adapter.specs.declared.call.Call.{Call}
-use Rattle.adapter.specs.declared.parcel.Parcel.{Parcel}
-use Rattle.adapter.specs.declared.reply.Reply.{Reply}
-use Rattle.adapter.specs.declared.reply.Totals.{Totals}
+use Rattle.flow_calls.specs.declared.caller.Caller.{Caller}
+use Rattle.flow_calls.specs.declared.call.Call.{Call}
+use Rattle.flow_calls.specs.declared.parcel.Parcel.{Parcel}
+use Rattle.flow_calls.specs.declared.reply.Reply.{Reply}
+use Rattle.flow_calls.specs.declared.reply.Totals.{Totals}
 use Rattle.flow_actions.specs.declared.verdict.Verdict.{Verdict}
 use Rattle.flow_actions.specs.declared.verdict.Fate.{Fate}
 use Rattle.flow_actions.specs.declared.verdict.Fate.TheVariants as fates
-use Rattle.adapter.specs.declared.entry.Entry.{Entry}
-use Rattle.adapter.specs.declared.entry.Entry.TheVariants.{Asked, Passed}
-use Rattle.adapter.specs.Totals.{totals_of, queue_totals, passes_by, is_queue, is_any_fate, is_drop}
+use Rattle.flow_calls.specs.declared.entry.Entry.{Entry}
+use Rattle.flow_calls.specs.declared.entry.Entry.TheVariants.{Asked, Passed}
+use Rattle.flow_calls.specs.Totals.{totals_of, queue_totals, passes_by, is_queue, is_any_fate, is_drop}
 use Rattle.flow_rules.specs.OnPort.{IsBelow}
-use Rattle.adapter.specs.Counted.{counted, HasRoom}
+use Rattle.port_state.specs.Counted.{counted, HasRoom}
 
 -- one more entry adds one to the count where it passes
 pub count_by-push : (p : Entry → Bool) (h : List Entry) (e : Entry) → count_by p (h ++ e ∷ []) ≡ count_by p h + cond (p e) 1 0

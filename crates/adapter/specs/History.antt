@@ -1,13 +1,13 @@
 -- A legal history: each call has the reply, and each frame the verdict, that the entries before it give.
 use Rattle.std.specs.Prelude.{◌≡◌, ◌≤◌, List, [], ◌∷◌, ◌++◌}
 use Rattle.flow_rules.specs.declared.limits.Limits.{Limits}
-use Rattle.adapter.specs.declared.caller.Caller.{Caller}
-use Rattle.adapter.specs.declared.call.Call.{Call}
-use Rattle.adapter.specs.declared.parcel.Parcel.{Parcel}
-use Rattle.adapter.specs.declared.entry.Entry.{Entry}
-use Rattle.adapter.specs.declared.entry.Entry.TheVariants.{Asked, Passed}
-use Rattle.adapter.specs.State.{flows_of, state_of}
-use Rattle.adapter.specs.Reply.{reply_to}
+use Rattle.flow_calls.specs.declared.caller.Caller.{Caller}
+use Rattle.flow_calls.specs.declared.call.Call.{Call}
+use Rattle.flow_calls.specs.declared.parcel.Parcel.{Parcel}
+use Rattle.flow_calls.specs.declared.entry.Entry.{Entry}
+use Rattle.flow_calls.specs.declared.entry.Entry.TheVariants.{Asked, Passed}
+use Rattle.port_state.specs.State.{flows_of, state_of}
+use Rattle.port_state.specs.Reply.{reply_to}
 use Rattle.flow_rules.specs.Walk.{verdict_of}
 
 -- the entry is right behind these entries

@@ -6,16 +6,16 @@ use Rattle.packet_headers.specs.declared.stacks.Tags.TheVariants as tags
 use Rattle.packet_headers.specs.declared.stacks.Network.TheVariants as network
 use Rattle.packet_headers.specs.Key.{layers_of}
 use Rattle.flow_actions.specs.declared.verdict.Verdict.{Verdict}
-use Rattle.adapter.specs.declared.caller.Caller.{Caller}
-use Rattle.adapter.specs.declared.parcel.Parcel.{Parcel}
+use Rattle.flow_calls.specs.declared.caller.Caller.{Caller}
+use Rattle.flow_calls.specs.declared.parcel.Parcel.{Parcel}
 use Rattle.adapter.specs.declared.kept.Steps.{Steps}
 use Rattle.adapter.specs.declared.kept.Steps.TheVariants as steps
 use Rattle.adapter.specs.declared.kept.Head.{Head}
 use Rattle.adapter.specs.declared.kept.Plain.{Plain}
 use Rattle.adapter.specs.declared.kept.Kept.{Kept}
 use Rattle.adapter.specs.declared.kept.Kept.TheVariants as kept
-use Rattle.adapter.specs.declared.entry.Entry.{Entry}
-use Rattle.adapter.specs.declared.entry.Entry.TheVariants.{Asked, Passed}
+use Rattle.flow_calls.specs.declared.entry.Entry.{Entry}
+use Rattle.flow_calls.specs.declared.entry.Entry.TheVariants.{Asked, Passed}
 
 -- the ids of a short way
 abbrev pub ids_of : Steps → List ℕ

@@ -1,7 +1,7 @@
 -- What contracts see of a history that the code keeps: its entries, how many more can be added without memory, and how many of these
 -- are spare.
 use Rattle.std.specs.Prelude.{ℕ, ◌+◌, ◌≤◌, ◌^◌, List, length}
-use Rattle.adapter.specs.declared.entry.Entry.{Entry}
+use Rattle.flow_calls.specs.declared.entry.Entry.{Entry}
 use Rattle.adapter.specs.declared.spare.Spare.{Spare}
 
 pub record KeptHistory : Type 0 where

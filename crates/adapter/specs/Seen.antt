@@ -1,10 +1,10 @@
 -- What contracts see of an adapter, and of an entry that it lends.
 use Rattle.std.specs.Prelude.{◌≡◌, List, [], ◌∷◌, ◌++◌}
 use Rattle.flow_rules.specs.declared.limits.Limits.{Limits}
-use Rattle.adapter.specs.declared.entry.EntryView.{EntryView}
-use Rattle.adapter.specs.declared.entry.EntryView.TheVariants as views
-use Rattle.adapter.specs.declared.entry.Entry.{Entry}
-use Rattle.adapter.specs.declared.entry.Entry.TheVariants.{Asked, Passed}
+use Rattle.flow_calls.specs.declared.entry.EntryView.{EntryView}
+use Rattle.flow_calls.specs.declared.entry.EntryView.TheVariants as views
+use Rattle.flow_calls.specs.declared.entry.Entry.{Entry}
+use Rattle.flow_calls.specs.declared.entry.Entry.TheVariants.{Asked, Passed}
 use Rattle.adapter.specs.declared.spare.Spare.{Spare}
 
 -- its limits, its history, and for how many more entries room was taken ahead

@@ -3,15 +3,15 @@ use Rattle.std.specs.Prelude.{◌≡◌, ◌^◌, ◌*◌, ◌≤◌, List, leng
 use Rattle.flow_rules.specs.declared.limits.Limits.{Limits}
 use Rattle.flow_rules.specs.Limits.{AreLimits}
 use Rattle.adapter.specs.declared.adapter.Adapter.TheInside.{Inside}
-use Rattle.adapter.specs.declared.entry.Entry.{Entry}
+use Rattle.flow_calls.specs.declared.entry.Entry.{Entry}
 use Rattle.flow_rules.specs.declared.change.Change.{Change}
-use Rattle.adapter.specs.Changes.{HasFewActions, changes_of}
+use Rattle.port_state.specs.Changes.{HasFewActions, changes_of}
 use Rattle.adapter.specs.Seen.{Seen}
 use Rattle.flow_rules.specs.declared.counter.Counter.{Counter}
-use Rattle.adapter.specs.State.{state_of}
-use Rattle.adapter.specs.Totals.{totals_of}
-use Rattle.adapter.specs.Counters.{count_of}
-use Rattle.adapter.specs.Standing.{Standing, standing_kept}
+use Rattle.port_state.specs.State.{state_of}
+use Rattle.flow_calls.specs.Totals.{totals_of}
+use Rattle.port_state.specs.Counters.{count_of}
+use Rattle.port_state.specs.Standing.{Standing, standing_kept}
 use Rattle.adapter.specs.History.{IsLegal}
 
 -- The limits are in their ranges. The history is legal, and short enough to be counted, and the standing is that behind it. A frame

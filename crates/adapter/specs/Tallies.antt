@@ -1,7 +1,7 @@
 -- What a frame's entry adds to counters and totals.
 use Rattle.std.specs.Prelude.{◌≡◌}
-use Rattle.adapter.specs.declared.entry.Entry.{Entry}
-use Rattle.adapter.specs.declared.entry.Entry.TheVariants.{Asked, Passed}
+use Rattle.flow_calls.specs.declared.entry.Entry.{Entry}
+use Rattle.flow_calls.specs.declared.entry.Entry.TheVariants.{Asked, Passed}
 use Rattle.adapter.specs.declared.kept.tallies.Tally.{Tally}
 
 -- the entry is a frame

@@ -1,23 +1,24 @@
 //! The adapter: the rules in effect, and the history of all that was asked and of all frames that passed.
 ghost use Rattle.std.specs.Prelude.{◌≡◌, ◌+◌, ◌<◌, ◌≤◌, ◌^◌, [], ◌∷◌, ◌++◌, true, length, drop, fold, slice_get, is_ok, All, Some, IfSome, IfOk, OnOk, OnErr};
-ghost use Rattle.adapter.specs.declared.entry.Entry.TheVariants.{Asked, Passed};
+ghost use Rattle.flow_calls.specs.declared.entry.Entry.TheVariants.{Asked, Passed};
 ghost use Rattle.adapter.specs.KeptLine.{IsLineOf};
 ghost use Rattle.adapter.specs.Seen.{Enters, Grows, Stays, entry_of};
 ghost use Rattle.adapter.specs.Spare.{no_spare, TakesFrames, TakesLine, Widens};
 
-use crate::call::Call;
-use crate::caller::Caller;
+use flow_calls::Call;
+use flow_calls::Caller;
 use crate::change_list::ChangeList;
-use crate::entry::{EntryView, LineView};
+use flow_calls::EntryView;
 use crate::history::History;
 use crate::kept::keep_call;
-use crate::outcome::{Judged, judge};
+use crate::line::LineView;
+use port_state::{Judged, judge};
 use crate::packed::Packed;
-use crate::parcel::Parcel;
-use crate::reply::{Reply, Totals};
+use flow_calls::Parcel;
+use flow_calls::{Reply, Totals};
 use crate::spare::Spare;
-use crate::standing::Standing;
-use crate::state::State;
+use port_state::Standing;
+use port_state::State;
 use flow_actions::Verdict;
 use flow_rules::{Change, Limits, classify};
 use packet_headers::Key;
@@ -52,10 +53,10 @@ impl Model for Adapter {
 }
 
 impl Adapter {
-    ghost use Rattle.adapter.specs.State.{flows_of, state_of};
-    ghost use Rattle.adapter.specs.Changes.{HasFewActions, changes_of, flows_at};
-    ghost use Rattle.adapter.specs.Totals.{totals_of};
-    ghost use Rattle.adapter.specs.Reply.{reply_to};
+    ghost use Rattle.port_state.specs.State.{flows_of, state_of};
+    ghost use Rattle.port_state.specs.Changes.{HasFewActions, changes_of, flows_at};
+    ghost use Rattle.flow_calls.specs.Totals.{totals_of};
+    ghost use Rattle.port_state.specs.Reply.{reply_to};
     ghost use Rattle.adapter.specs.History.{IsFrame, IsLegal};
     ghost use Rattle.flow_rules.specs.Walk.{verdict_of};
     ghost use Rattle.flow_rules.specs.Changes.{changed};

@@ -1,16 +1,17 @@
 //! The list of entries.
 ghost use Rattle.std.specs.Prelude.{◌≡◌, ◌+◌, ◌<◌, ◌≤◌, ◌^◌, [], ◌∷◌, ◌++◌, true, length, slice_get, Some, IfSome, OnOk, OnErr, is_ok};
-ghost use Rattle.adapter.specs.declared.entry.Entry.TheVariants.{Passed};
+ghost use Rattle.flow_calls.specs.declared.entry.Entry.TheVariants.{Passed};
 ghost use Rattle.adapter.specs.Kept.{entry_kept};
 ghost use Rattle.adapter.specs.KeptHistory.{IsReady, IsReadyForLine};
 ghost use Rattle.adapter.specs.KeptLine.{IsLineOf};
 ghost use Rattle.adapter.specs.Seen.{entry_of};
 ghost use Rattle.adapter.specs.Spare.{no_spare, TakesFrames, TakesLine, Widens};
 
-use crate::caller::Caller;
-use crate::entry::{EntryView, LineView};
+use flow_calls::Caller;
+use flow_calls::EntryView;
 use crate::kept::{Kept, Long, fill_stock, keep_frame, keep_in_stock, show, show_line};
-use crate::parcel::Parcel;
+use crate::line::LineView;
+use flow_calls::Parcel;
 use crate::spare::Spare;
 use flow_actions::Verdict;
 use std::alloc::{AllocError, Global};

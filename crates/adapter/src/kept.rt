@@ -8,17 +8,17 @@
 //!
 //! How a frame is kept follows from the frame and its verdict alone, so whoever has both can do it before its turn comes.
 ghost use Rattle.std.specs.Prelude.{◌≡◌, ◌<◌, ◌^◌, ◌/◌, ◌%◌, IfOk, IfSome};
-ghost use Rattle.adapter.specs.declared.entry.Entry.TheVariants.{Asked, Passed};
+ghost use Rattle.flow_calls.specs.declared.entry.Entry.TheVariants.{Asked, Passed};
 ghost use Rattle.adapter.specs.Kept.{entry_kept, entry_with, stack_key, ids_of, IsHead, IsPlain};
 
 mod shown;
 mod stock;
 mod tallies;
 
-use crate::call::Call;
-use crate::caller::Caller;
-use crate::parcel::Parcel;
-use crate::reply::Reply;
+use flow_calls::Call;
+use flow_calls::Caller;
+use flow_calls::Parcel;
+use flow_calls::Reply;
 use arrayvec::ArrayVec;
 use flow_actions::{Fate, MAX_PATH, Verdict};
 use packet_headers::{Ipv4, Key, Network, Stack, Tags, Transport};

@@ -5,13 +5,13 @@ ghost use Rattle.flow_rules.specs.declared.limits.Limits.{Limits};
 ghost use Rattle.flow_rules.specs.Changes.{changed};
 ghost use Rattle.flow_rules.specs.Lawful.{AreLawful};
 ghost use Rattle.flow_rules.specs.Limits.{AreLimits};
-ghost use Rattle.adapter.specs.declared.call.Op.{Op};
-ghost use Rattle.adapter.specs.declared.caller.Caller.{Caller};
-ghost use Rattle.adapter.specs.declared.entry.Entry.{Entry};
-ghost use Rattle.adapter.specs.declared.entry.Entry.TheVariants.{Passed};
-ghost use Rattle.adapter.specs.declared.parcel.Parcel.{Parcel};
-ghost use Rattle.adapter.specs.State.{State, flows_of, opening, state_of};
-ghost use Rattle.adapter.specs.Changes.{AreItsChanges, HasFewActions, changes_behind, changes_of, flows_at};
+ghost use Rattle.flow_calls.specs.declared.call.Op.{Op};
+ghost use Rattle.flow_calls.specs.declared.caller.Caller.{Caller};
+ghost use Rattle.flow_calls.specs.declared.entry.Entry.{Entry};
+ghost use Rattle.flow_calls.specs.declared.entry.Entry.TheVariants.{Passed};
+ghost use Rattle.flow_calls.specs.declared.parcel.Parcel.{Parcel};
+ghost use Rattle.port_state.specs.State.{State, flows_of, opening, state_of};
+ghost use Rattle.port_state.specs.Changes.{AreItsChanges, HasFewActions, changes_behind, changes_of, flows_at};
 
 /// What packets see behind a call is what they saw before it, with the changes that the call makes, in order.
 pub fn changes_are_what_packets_see()

@@ -1,5 +1,4 @@
-//! The plain one-thread adapter: the rules in effect with the actions that they share, templates and tables, and the history of
-//! all that was asked and all that passed.
+//! The plain one-thread adapter: a port's state, and the history of all that was asked and all that passed.
 //!
 //! Its model in one sentence: an adapter is its limits, its history, a list of entries that is always legal, and how much room for
 //! more entries was taken ahead.
@@ -33,12 +32,8 @@
 //! What packets see changes with some calls alone. These changes are kept in a list beside the history (`specs/Changes`), so that a
 //! replica can follow: its version is the number of changes that it has seen, and `changes_from` lends it the others.
 //!
-//! The definitions stand in `specs/`: `History` (what is legal), `State` (what calls do), `Changes` (what packets see of
-//! that), `Tables` (templates and tables), `Standing` (what a reply depends on), `Reply` (what calls answer), `Rows` (what a list of rules tells), `Totals` and
-//! `Counters`; why calls on shared actions are refused stands in `indirect_counters`, and why those on templates and tables are
-//! in `template_tables`: a table's taken slots are those of its rules in effect;
-//! what rules do to frames stands in `flow_rules`. A later command adds a case to `State`, `Changes` and `Reply`; nothing
-//! above these words looks inside.
+//! The definitions stand in `specs/`: `History` (what is legal) and `Seen`. What calls do and answer, what packets see of that, and
+//! what counters stand at behind a history is said in `port_state`, and what entries are made of in `flow_calls`.
 //!
 //! Entries of frames are many, so what is kept of them is small (`kept`): `entry` makes the frame and its verdict anew, and
 //! `line` what a line tells of them. A call lies in a box of its own.
@@ -47,38 +42,19 @@
 #![tactic(auto)]
 
 mod adapter;
-mod call;
-mod caller;
 mod change_list;
-mod count;
-mod effect;
-mod entry;
 mod history;
 mod kept;
 mod laws;
-mod listing;
-mod outcome;
+mod line;
 mod packed;
-mod parcel;
-mod raising;
-mod reply;
-mod rows;
 mod spare;
-mod standing;
-mod state;
-mod template_calls;
-mod templates;
 
 pub use adapter::Adapter;
-pub use call::{ActionLists, At, BadKind, Call, Op, TableTemplates};
-pub use caller::Caller;
-pub use entry::{Entry, EntryView, LineView};
 pub use laws::{
     changes_are_lawful, changes_are_what_packets_see, changes_begin_with_those_of_a_front,
     equal_changes_give_equal_flows, frames_change_nothing,
 };
+pub use line::LineView;
 pub use packed::Packed;
-pub use parcel::Parcel;
-pub use reply::{Reply, Totals};
-pub use rows::{ListRow, RuleList};
 pub use spare::Spare;

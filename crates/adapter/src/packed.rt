@@ -1,12 +1,12 @@
 //! Frames that are ready to be entered.
 ghost use Rattle.std.specs.Prelude.{◌≡◌, IfOk};
-ghost use Rattle.adapter.specs.declared.entry.Entry.TheVariants.{Passed};
+ghost use Rattle.flow_calls.specs.declared.entry.Entry.TheVariants.{Passed};
 ghost use Rattle.adapter.specs.Kept.{entry_kept};
 ghost use Rattle.adapter.specs.Tallies.{IsPassed, Tallies};
 
-use crate::caller::Caller;
+use flow_calls::Caller;
 use crate::kept::{Kept, Tally, keep_frame, tally_of};
-use crate::parcel::Parcel;
+use flow_calls::Parcel;
 use flow_actions::Verdict;
 use std::alloc::{AllocError, Global};
 use std::marker::Model;
@@ -20,7 +20,7 @@ pub struct Packed {
 }
 
 impl Model for Packed {
-    ghost use Rattle.adapter.specs.declared.entry.Entry.{Entry};
+    ghost use Rattle.flow_calls.specs.declared.entry.Entry.{Entry};
 
     ghost Value = { Entry };
 

@@ -1,8 +1,8 @@
 -- How many calls the parts of a program have.
 use Rattle.std.proofs.Common.{◌≡◌, ℕ, ◌+◌, ◌≤◌, false, List, [], ◌∷◌, ◌++◌, length, is_some, Option, None, Some, refl, arith, sym, ap, length-append, zero-add, suc}
-use Rattle.adapter.specs.declared.call.Call.{Call}
-use Rattle.adapter.specs.declared.call.Op.{Op}
-use Rattle.adapter.specs.declared.call.Op.TheVariants as ops
+use Rattle.flow_calls.specs.declared.call.Call.{Call}
+use Rattle.flow_calls.specs.declared.call.Op.{Op}
+use Rattle.flow_calls.specs.declared.call.Op.TheVariants as ops
 use Rattle.flow_grammar.specs.declared.line.Line.{Line}
 use Rattle.flow_grammar.specs.declared.line.Line.TheVariants as lines
 use Rattle.flow_grammar.specs.declared.part.Part.{Part}

@@ -1,6 +1,6 @@
 -- The calls of a part by caller: the shell is 0, the agent of flow queue q (0 to 7) is 1 + q.
 use Rattle.std.specs.Prelude.{ℕ, ◌-◌, ◌==◌, List, [], slice_index_or, if◌then◌else◌}
-use Rattle.adapter.specs.declared.call.Call.{Call}
+use Rattle.flow_calls.specs.declared.call.Call.{Call}
 use Rattle.flow_grammar.specs.declared.part.Part.{Part}
 use Rattle.flow_grammar.specs.declared.part.Part.TheVariants as parts
 

@@ -1,7 +1,7 @@
 -- Lines that destroy things by their ids.
 use Rattle.std.specs.Prelude.{ℕ, List, map, codes, Option, option_map}
-use Rattle.adapter.specs.declared.call.Op.{Op}
-use Rattle.adapter.specs.declared.call.Op.TheVariants as ops
+use Rattle.flow_calls.specs.declared.call.Op.{Op}
+use Rattle.flow_calls.specs.declared.call.Op.TheVariants as ops
 use Rattle.rule_words.specs.Turns.{◌>>=◌}
 use Rattle.rule_words.specs.Ids.{ids_of}
 use Rattle.flow_grammar.specs.declared.destroys.Object.{Object}

@@ -1,6 +1,6 @@
 -- What a draft makes of the lines that are left.
 use Rattle.std.specs.Prelude.{◌≡◌, ℕ, ◌+◌, Bool, List, [], ◌∷◌, ◌++◌, length, Option, None, Some, if◌then◌else◌}
-use Rattle.adapter.specs.declared.call.Call.{Call}
+use Rattle.flow_calls.specs.declared.call.Call.{Call}
 use Rattle.flow_grammar.specs.declared.line.Line.{Line}
 use Rattle.flow_grammar.specs.declared.part.Part.{Part}
 use Rattle.flow_grammar.specs.declared.draft.Opening.{Opening}

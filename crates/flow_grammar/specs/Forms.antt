@@ -1,8 +1,8 @@
 -- The forms of a line: its first word names a command, and a flow line's verb what it asks.
 use Rattle.std.specs.Prelude.{ℕ, ◌==◌, ◌&&◌, nat_le, List, [], ◌∷◌, codes, Option, None, Some, option_map, if◌then◌else◌}
-use Rattle.adapter.specs.declared.call.Op.{Op}
-use Rattle.adapter.specs.declared.call.Op.TheVariants as ops
-use Rattle.adapter.specs.declared.call.BadKind.TheVariants as kinds
+use Rattle.flow_calls.specs.declared.call.Op.{Op}
+use Rattle.flow_calls.specs.declared.call.Op.TheVariants as ops
+use Rattle.flow_calls.specs.declared.call.BadKind.TheVariants as kinds
 use Rattle.flow_actions.specs.declared.action.Actions.{Actions}
 use Rattle.flow_rules.specs.declared.spec.RuleSpec.{RuleSpec}
 use Rattle.rule_words.specs.Turns.{◌>>=◌}

@@ -1,7 +1,7 @@
 -- What `flow indirect_action PORT ..` asks: actions that rules share.
 use Rattle.std.specs.Prelude.{ℕ, List, [], ◌∷◌, codes, Option, None, Some, option_map}
-use Rattle.adapter.specs.declared.call.Op.{Op}
-use Rattle.adapter.specs.declared.call.Op.TheVariants as ops
+use Rattle.flow_calls.specs.declared.call.Op.{Op}
+use Rattle.flow_calls.specs.declared.call.Op.TheVariants as ops
 use Rattle.flow_actions.specs.declared.action.Action.{Action}
 use Rattle.rule_words.specs.Turns.{◌>>=◌}
 use Rattle.rule_words.specs.Vocabulary.{meaning_of}

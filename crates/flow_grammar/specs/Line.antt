@@ -1,6 +1,6 @@
 -- What a line says.
 use Rattle.std.specs.Prelude.{ℕ, List, [], ◌∷◌, unwrap_or, if◌then◌else◌}
-use Rattle.adapter.specs.declared.call.BadKind.TheVariants as kinds
+use Rattle.flow_calls.specs.declared.call.BadKind.TheVariants as kinds
 use Rattle.rule_words.specs.Turns.{◌>>=◌}
 use Rattle.rule_words.specs.Vocabulary.{meaning_of}
 use Rattle.flow_grammar.specs.declared.line.Line.{Line}

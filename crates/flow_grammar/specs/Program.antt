@@ -1,9 +1,9 @@
 -- The program of a script: its sections and phases.
 use Rattle.std.specs.Prelude.{ℕ, ◌+◌, List, [], ◌∷◌, ◌++◌, map, Option, None, Some}
-use Rattle.adapter.specs.declared.call.Call.{Call}
-use Rattle.adapter.specs.declared.call.Op.{Op}
-use Rattle.adapter.specs.declared.call.Op.TheVariants as ops
-use Rattle.adapter.specs.declared.call.BadKind.TheVariants as kinds
+use Rattle.flow_calls.specs.declared.call.Call.{Call}
+use Rattle.flow_calls.specs.declared.call.Op.{Op}
+use Rattle.flow_calls.specs.declared.call.Op.TheVariants as ops
+use Rattle.flow_calls.specs.declared.call.BadKind.TheVariants as kinds
 use Rattle.flow_grammar.specs.declared.line.Line.{Line}
 use Rattle.flow_grammar.specs.declared.line.Line.TheVariants as lines
 use Rattle.flow_grammar.specs.declared.part.Part.{Part}

@@ -1,9 +1,9 @@
 -- What `flow pattern_template PORT ..`, `flow actions_template PORT ..` and `flow template_table PORT ..` ask.
 use Rattle.std.specs.Prelude.{ℕ, List, [], ◌∷◌, codes, Option, None, Some, option_map}
-use Rattle.adapter.specs.declared.call.Op.{Op}
-use Rattle.adapter.specs.declared.call.Op.TheVariants as ops
-use Rattle.adapter.specs.declared.call.ActionLists.{ActionLists}
-use Rattle.adapter.specs.declared.call.TableTemplates.{TableTemplates}
+use Rattle.flow_calls.specs.declared.call.Op.{Op}
+use Rattle.flow_calls.specs.declared.call.Op.TheVariants as ops
+use Rattle.flow_calls.specs.declared.call.ActionLists.{ActionLists}
+use Rattle.flow_calls.specs.declared.call.TableTemplates.{TableTemplates}
 use Rattle.pattern_items.specs.declared.pattern.Pattern.{Pattern}
 use Rattle.rule_binding.specs.declared.template.Masks.{Masks}
 use Rattle.rule_words.specs.Turns.{◌>>=◌}

@@ -1,7 +1,7 @@
 //! Calls in order.
 ghost use Rattle.std.specs.Prelude.{◌≡◌, ◌<◌, List, [], ◌∷◌, ◌++◌, length, slice_get, OnOk, OnErr, IsTrue, ◌↔◌};
 
-use adapter::Call;
+use flow_calls::Call;
 use std::alloc::{AllocError, Global};
 use std::marker::Model;
 
@@ -13,7 +13,7 @@ pub struct CallList {
 
 impl Model for CallList {
     ghost use Rattle.std.specs.Prelude.{List};
-    ghost use Rattle.adapter.specs.declared.call.Call.{Call};
+    ghost use Rattle.flow_calls.specs.declared.call.Call.{Call};
 
     ghost Value = { List Call };
 

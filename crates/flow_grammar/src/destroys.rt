@@ -4,7 +4,7 @@ ghost use Rattle.flow_grammar.specs.Destroys.{id_word, id_bits, listed_ids, dest
 ghost use Rattle.rule_words.specs.Ids.{AreBelow};
 
 use crate::op_list::OpList;
-use adapter::Op;
+use flow_calls::Op;
 use rule_words::{IdList, read_ids};
 use std::alloc::{AllocError, Global};
 

@@ -7,7 +7,7 @@ ghost use Rattle.flow_grammar.specs.Program.{calls_at, section_of, phase_of, no_
 use crate::call_list::CallList;
 use crate::line::Line;
 use crate::part::{Part, Program};
-use adapter::{At, BadKind, Call, Op};
+use flow_calls::{At, BadKind, Call, Op};
 use std::alloc::{AllocError, Global};
 use std::mem;
 

@@ -8,7 +8,7 @@ use crate::numbers::number_32;
 use crate::op_list::OpList;
 use crate::verbs::{read_ops, verb_of};
 use crate::words::if_last;
-use adapter::BadKind;
+use flow_calls::BadKind;
 use rule_words::meaning;
 use std::alloc::{AllocError, Global};
 

@@ -1,6 +1,6 @@
 //! What `flow indirect_action PORT ..` asks.
 ghost use Rattle.std.specs.Prelude.{◌≡◌, [], ◌∷◌, IfOk, map, option_map};
-ghost use Rattle.adapter.specs.declared.call.Op.TheVariants as ops;
+ghost use Rattle.flow_calls.specs.declared.call.Op.TheVariants as ops;
 ghost use Rattle.flow_grammar.specs.IndirectActions as spec;
 ghost use Rattle.rule_words.specs.Vocabulary.{meaning_of};
 
@@ -8,7 +8,7 @@ use crate::destroys::{Object, read_destroys};
 use crate::numbers::{given_id, number_16};
 use crate::op_list::{OpList, one_op};
 use crate::words::{behind, if_last};
-use adapter::Op;
+use flow_calls::Op;
 use flow_actions::Action;
 use flow_rules::Attr;
 use rule_words::{meaning, read_action, read_directions};

@@ -5,7 +5,7 @@ ghost use Rattle.flow_grammar.specs.Line.{line_of, line_of_words};
 use crate::forms::{command_of, read_command};
 use crate::op_list::OpList;
 use crate::words::{are_printable, words_of};
-use adapter::BadKind;
+use flow_calls::BadKind;
 use std::alloc::{AllocError, Global};
 
 /// What a line says, wherever it stands.

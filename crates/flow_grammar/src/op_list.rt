@@ -1,7 +1,7 @@
 //! What one line asks for.
 ghost use Rattle.std.specs.Prelude.{◌≡◌, ◌<◌, ◌≤◌, List, [], ◌∷◌, ◌++◌, length, slice_get, option_map, IfOk, OnOk};
 
-use adapter::Op;
+use flow_calls::Op;
 use std::alloc::{AllocError, Global};
 use std::marker::Model;
 
@@ -13,7 +13,7 @@ pub struct OpList {
 
 impl Model for OpList {
     ghost use Rattle.std.specs.Prelude.{◌≤◌, List, length};
-    ghost use Rattle.adapter.specs.declared.call.Op.{Op};
+    ghost use Rattle.flow_calls.specs.declared.call.Op.{Op};
 
     ghost Value = { List Op };
 

@@ -2,7 +2,7 @@
 ghost use Rattle.std.specs.Prelude.{◌≡◌, ◌<◌, length, slice_get};
 
 use crate::call_list::CallList;
-use adapter::Call;
+use flow_calls::Call;
 use std::marker::Model;
 
 /// A part of a program: calls outside phases, or a phase.

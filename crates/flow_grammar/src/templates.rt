@@ -1,6 +1,6 @@
 //! What `flow pattern_template PORT ..`, `flow actions_template PORT ..` and `flow template_table PORT ..` ask.
 ghost use Rattle.std.specs.Prelude.{◌≡◌, ◌<◌, ◌≤◌, ◌^◌, IfOk, length, map, option_map};
-ghost use Rattle.adapter.specs.declared.call.Op.TheVariants as ops;
+ghost use Rattle.flow_calls.specs.declared.call.Op.TheVariants as ops;
 ghost use Rattle.flow_grammar.specs.Templates as spec;
 ghost use Rattle.rule_words.specs.Ids.{AreBelow, ids_of};
 ghost use Rattle.rule_words.specs.Vocabulary.{meaning_of};
@@ -9,7 +9,7 @@ use crate::destroys::{Object, read_destroys};
 use crate::numbers::{given_id, number_32};
 use crate::op_list::{OpList, one_op};
 use crate::words::behind;
-use adapter::{ActionLists, Op, TableTemplates};
+use flow_calls::{ActionLists, Op, TableTemplates};
 use arrayvec::ArrayVec;
 use flow_rules::Attr;
 use pattern_items::Pattern;

@@ -8,7 +8,7 @@ use crate::indirect_actions::read_indirect;
 use crate::op_list::{OpList, one_op};
 use crate::templates::{read_actions_template, read_pattern_template, read_template_table};
 use crate::words::{behind, if_last};
-use adapter::Op;
+use flow_calls::Op;
 use flow_actions::Actions;
 use flow_rules::RuleSpec;
 use rule_words::{first_number, flag_and_rest, meaning, read_actions, read_attributes, read_items};

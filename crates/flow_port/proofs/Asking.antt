@@ -1,10 +1,10 @@
 -- The entry that a call leaves, and that there is none behind want of memory.
 use Rattle.std.proofs.Common.{◌≡◌, ℕ, List, [], ◌∷◌, ◌++◌, Result, Ok, Err, IfOk, OnErr, append-nil, sym, ◌∙◌}
-use Rattle.adapter.specs.declared.caller.Caller.{Caller}
-use Rattle.adapter.specs.declared.call.Call.{Call}
-use Rattle.adapter.specs.declared.reply.Reply.{Reply}
-use Rattle.adapter.specs.declared.entry.Entry.{Entry}
-use Rattle.adapter.specs.declared.entry.Entry.TheVariants.{Asked}
+use Rattle.flow_calls.specs.declared.caller.Caller.{Caller}
+use Rattle.flow_calls.specs.declared.call.Call.{Call}
+use Rattle.flow_calls.specs.declared.reply.Reply.{Reply}
+use Rattle.flow_calls.specs.declared.entry.Entry.{Entry}
+use Rattle.flow_calls.specs.declared.entry.Entry.TheVariants.{Asked}
 use Rattle.turn_book.specs.Views.{Each, BeginsWith}
 use Rattle.flow_port.specs.Calls.{entry_left}
 use Rattle.flow_port.specs.Ports.{Grew}

@@ -3,8 +3,8 @@ use Rattle.std.proofs.Common.{◌≡◌, ℕ, zero, suc, ◌<◌, List, [], ◌�
 use Rattle.std.proofs.lemmas.List.{get_or-map, length-map}
 use Rattle.std.proofs.lemmas.List.Elements.{All-head, All-tail, All-weaker}
 use Rattle.flow_rules.specs.declared.limits.Limits.{Limits}
-use Rattle.adapter.specs.declared.caller.Caller.{Caller}
-use Rattle.adapter.specs.declared.entry.Entry.{Entry}
+use Rattle.flow_calls.specs.declared.caller.Caller.{Caller}
+use Rattle.flow_calls.specs.declared.entry.Entry.{Entry}
 use Rattle.turn_book.specs.Views.{BeginsWith}
 use Rattle.turn_book.specs.declared.seat.Seat.{Seat}
 use Rattle.turn_book.specs.Seats as book_seats
@@ -13,7 +13,7 @@ use Rattle.flow_port.specs.declared.held.Held.{Held}
 use Rattle.flow_port.specs.declared.port.FlowPort.{FlowPort}
 use Rattle.flow_port.specs.declared.seat.PortSeat.{PortSeat}
 use Rattle.flow_port.specs.declared.seat.PortSeats.{PortSeats}
-use Rattle.adapter.specs.Entries.{caller_of, entries_by}
+use Rattle.flow_calls.specs.Entries.{caller_of, entries_by}
 use Rattle.flow_port.specs.Owners.{place_of}
 use Rattle.flow_port.specs.Holding.{history_in, fixed_in, owner_by}
 use Rattle.flow_port.specs.Ports.{callers_of, since, seen, mine, whose, with_caller, seats_in, IsSeatAt, AreAllAt}

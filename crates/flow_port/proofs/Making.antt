@@ -5,13 +5,13 @@ use Rattle.std.proofs.lemmas.List.{get_or-map, length-map}
 use Rattle.std.proofs.lemmas.List.FromFn.{length-range_with_len, get_or-range_with_len}
 use Rattle.std.proofs.lemmas.Simd.{map-map}
 use Rattle.flow_rules.specs.declared.limits.Limits.{Limits}
-use Rattle.adapter.specs.declared.caller.Caller.{Caller}
-use Rattle.adapter.specs.declared.entry.Entry.{Entry}
+use Rattle.flow_calls.specs.declared.caller.Caller.{Caller}
+use Rattle.flow_calls.specs.declared.entry.Entry.{Entry}
 use Rattle.turn_book.specs.declared.seat.Seat.{Seat}
 use Rattle.turn_book.specs.Books as books
 use Rattle.flow_port.specs.declared.held.Held.{Held}
 use Rattle.flow_port.specs.declared.port.FlowPort.{FlowPort}
-use Rattle.adapter.specs.Entries.{entries_by}
+use Rattle.flow_calls.specs.Entries.{entries_by}
 use Rattle.flow_port.specs.Owners.{place_of}
 use Rattle.flow_port.specs.Holding.{history_in, fixed_in}
 use Rattle.flow_port.specs.Ports.{opening_of, callers_of, since, whose, no_caller, with_caller, IsFreshAt, AreDifferent}

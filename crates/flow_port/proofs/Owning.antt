@@ -3,9 +3,9 @@ use Rattle.std.proofs.Common.{◌≡◌, ◌≢◌, ℕ, zero, suc, ◌<◌, ◌
 use Rattle.std.proofs.lemmas.Bool.Decides.{eqb_tells}
 use Rattle.std.proofs.lemmas.List.Elements.{filter_agree}
 use Rattle.flow_rules.specs.declared.limits.Limits.{Limits}
-use Rattle.adapter.specs.declared.caller.Caller.{Caller}
-use Rattle.adapter.specs.declared.entry.Entry.{Entry}
-use Rattle.adapter.specs.Entries.{caller_of, is_by, entries_by}
+use Rattle.flow_calls.specs.declared.caller.Caller.{Caller}
+use Rattle.flow_calls.specs.declared.entry.Entry.{Entry}
+use Rattle.flow_calls.specs.Entries.{caller_of, is_by, entries_by}
 use Rattle.turn_book.specs.declared.book.Book.{Book}
 use Rattle.turn_book.specs.declared.seat.Seat.{Seat}
 use Rattle.turn_book.specs.Books as books

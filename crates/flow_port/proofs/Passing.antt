@@ -7,14 +7,14 @@ use Rattle.flow_rules.specs.declared.limits.Limits.{Limits}
 use Rattle.flow_rules.specs.Walk.{Flows, verdict_of}
 use Rattle.replica.specs.Caught.{ReplicaView}
 use Rattle.turn_book.specs.Views.{BeginsWith, Each}
-use Rattle.adapter.specs.declared.caller.Caller.{Caller}
-use Rattle.adapter.specs.declared.parcel.Parcel.{Parcel}
-use Rattle.adapter.specs.declared.entry.Entry.{Entry}
-use Rattle.adapter.specs.declared.entry.Entry.TheVariants.{Passed}
-use Rattle.adapter.specs.Changes.{changes_of}
+use Rattle.flow_calls.specs.declared.caller.Caller.{Caller}
+use Rattle.flow_calls.specs.declared.parcel.Parcel.{Parcel}
+use Rattle.flow_calls.specs.declared.entry.Entry.{Entry}
+use Rattle.flow_calls.specs.declared.entry.Entry.TheVariants.{Passed}
+use Rattle.port_state.specs.Changes.{changes_of}
 use Rattle.adapter.specs.History.{IsFrame}
 use Rattle.adapter.specs.Seen.{Seen, Grows, Stays}
-use Rattle.adapter.specs.State.{flows_of, state_of}
+use Rattle.port_state.specs.State.{flows_of, state_of}
 use Rattle.adapter.proofs.ChangesTold.{changes_of-passed}
 use Rattle.flow_port.specs.Bursts.{AreFit, passed_all, verdicts_by}
 use Rattle.flow_port.specs.Ports.{Grew}

@@ -9,9 +9,9 @@ use Rattle.flow_rules.specs.Changes.{changed}
 use Rattle.flow_rules.specs.Lawful.{AreLawful}
 use Rattle.flow_rules.specs.Walk.{Flows}
 use Rattle.replica.specs.Caught.{ReplicaView, caught_up}
-use Rattle.adapter.specs.declared.entry.Entry.{Entry}
-use Rattle.adapter.specs.Changes.{changes_behind, changes_of, flows_at}
-use Rattle.adapter.specs.State.{flows_of, opening, state_of}
+use Rattle.flow_calls.specs.declared.entry.Entry.{Entry}
+use Rattle.port_state.specs.Changes.{changes_behind, changes_of, flows_at}
+use Rattle.port_state.specs.State.{flows_of, opening, state_of}
 use Rattle.adapter.specs.Seen.{Seen, Grows}
 use Rattle.adapter.proofs.ChangesTold.{changes_of-append, flows_of-changes}
 use Rattle.turn_book.specs.Views.{BeginsWith}

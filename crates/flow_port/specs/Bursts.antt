@@ -4,12 +4,12 @@ use Rattle.std.specs.List.Sorted.{IsStrictlyIncreasing}
 use Rattle.flow_actions.specs.declared.verdict.Verdict.{Verdict}
 use Rattle.flow_rules.specs.declared.limits.Limits.{Limits}
 use Rattle.flow_rules.specs.Walk.{Flows, verdict_of}
-use Rattle.adapter.specs.declared.caller.Caller.{Caller}
-use Rattle.adapter.specs.declared.parcel.Parcel.{Parcel}
-use Rattle.adapter.specs.declared.entry.Entry.{Entry}
-use Rattle.adapter.specs.declared.entry.Entry.TheVariants.{Passed}
-use Rattle.adapter.specs.Entries.{numbers_by}
-use Rattle.adapter.specs.State.{flows_of, state_of}
+use Rattle.flow_calls.specs.declared.caller.Caller.{Caller}
+use Rattle.flow_calls.specs.declared.parcel.Parcel.{Parcel}
+use Rattle.flow_calls.specs.declared.entry.Entry.{Entry}
+use Rattle.flow_calls.specs.declared.entry.Entry.TheVariants.{Passed}
+use Rattle.flow_calls.specs.Entries.{numbers_by}
+use Rattle.port_state.specs.State.{flows_of, state_of}
 
 -- the verdicts of what packets see, in order
 abbrev pub verdicts_by : Flows → List Parcel → List Verdict

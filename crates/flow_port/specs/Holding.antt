@@ -1,9 +1,9 @@
 -- What contracts see of the value of a port's book.
 use Rattle.std.specs.Prelude.{ℕ, List}
 use Rattle.flow_rules.specs.declared.limits.Limits.{Limits}
-use Rattle.adapter.specs.declared.caller.Caller.{Caller}
-use Rattle.adapter.specs.declared.entry.Entry.{Entry}
-use Rattle.adapter.specs.Entries.{caller_of}
+use Rattle.flow_calls.specs.declared.caller.Caller.{Caller}
+use Rattle.flow_calls.specs.declared.entry.Entry.{Entry}
+use Rattle.flow_calls.specs.Entries.{caller_of}
 use Rattle.flow_port.specs.declared.held.Held.{Held}
 use Rattle.flow_port.specs.Owners.{place_of}
 

@@ -1,6 +1,6 @@
 -- Which of the callers of a port owns an entry.
 use Rattle.std.specs.Prelude.{ℕ, suc, ◌==◌, cond, List, [], ◌∷◌}
-use Rattle.adapter.specs.declared.caller.Caller.{Caller}
+use Rattle.flow_calls.specs.declared.caller.Caller.{Caller}
 
 -- the place of a caller in a list of callers, or the list's length
 abbrev pub place_of : ℕ → List Caller → ℕ

@@ -1,9 +1,9 @@
 -- A port and its seats, and what each caller has seen and entered.
 use Rattle.std.specs.Prelude.{◌≡◌, ◌≢◌, ℕ, ◌^◌, ◌<◌, List, [], ◌++◌, map, length, drop, All, AllPairs, slice_index_or}
 use Rattle.flow_rules.specs.declared.limits.Limits.{Limits}
-use Rattle.adapter.specs.declared.caller.Caller.{Caller}
-use Rattle.adapter.specs.declared.entry.Entry.{Entry}
-use Rattle.adapter.specs.Entries.{entries_by}
+use Rattle.flow_calls.specs.declared.caller.Caller.{Caller}
+use Rattle.flow_calls.specs.declared.entry.Entry.{Entry}
+use Rattle.flow_calls.specs.Entries.{entries_by}
 use Rattle.turn_book.specs.declared.seat.Seat.{Seat}
 use Rattle.turn_book.specs.Seats as book_seats
 use Rattle.turn_book.specs.Books as books

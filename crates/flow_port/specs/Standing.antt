@@ -1,8 +1,8 @@
 -- Where a replica stands: at a version of what a seat has seen.
 use Rattle.std.specs.Prelude.{◌≡◌, ◌≤◌, List, length}
 use Rattle.flow_rules.specs.declared.limits.Limits.{Limits}
-use Rattle.adapter.specs.declared.entry.Entry.{Entry}
-use Rattle.adapter.specs.Changes.{changes_of, flows_at}
+use Rattle.flow_calls.specs.declared.entry.Entry.{Entry}
+use Rattle.port_state.specs.Changes.{changes_of, flows_at}
 use Rattle.replica.specs.Caught.{ReplicaView}
 use Rattle.turn_book.specs.Views.{BeginsWith}
 use Rattle.flow_port.specs.declared.port.FlowPort.{FlowPort}

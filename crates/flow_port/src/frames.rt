@@ -1,11 +1,12 @@
 //! Frames that one caller lets pass together: classified, packed, and entered.
 ghost use Rattle.std.specs.Prelude.{◌≡◌, ◌≤◌, length, IfOk, OnOk, OnErr};
 ghost use Rattle.adapter.specs.Seen.{Grows, Stays};
-ghost use Rattle.adapter.specs.State.{flows_of, state_of};
+ghost use Rattle.port_state.specs.State.{flows_of, state_of};
 ghost use Rattle.flow_port.specs.Bursts.{AreFit, passed_all, verdicts_by};
 ghost use Rattle.flow_port.specs.Standing.{IsCurrent, Stands};
 
-use adapter::{Adapter, Caller, Packed, Parcel};
+use adapter::{Adapter, Packed};
+use flow_calls::{Caller, Parcel};
 use arrayvec::ArrayVec;
 use flow_actions::Verdict;
 use replica::Replica;

@@ -7,7 +7,8 @@ ghost use Rattle.flow_port.specs.Holding.{history_in, fixed_in};
 ghost use Rattle.flow_port.specs.Standing.{IsCurrent, Stands};
 
 use crate::frames::{Frames, enter};
-use adapter::{Adapter, Call, Caller, Entry, Packed, Reply};
+use adapter::{Adapter, Packed};
+use flow_calls::{Call, Caller, Entry, Reply};
 use arrayvec::ArrayVec;
 use flow_actions::Verdict;
 use flow_rules::Limits;

@@ -4,7 +4,7 @@ ghost use Rattle.flow_port.specs.declared.port.FlowPort.{FlowPort};
 ghost use Rattle.flow_port.specs.Ports.{IsListOf, IsSeatAt, limit_of, no_caller, seats_in, turns, whose};
 
 use crate::held::Held;
-use adapter::Caller;
+use flow_calls::Caller;
 use arrayvec::ArrayVec;
 use turn_book::{Seat, SeatList};
 

@@ -3,7 +3,8 @@
 //! The adapter keeps running numbers. The plain counter keeps nothing between two looks: it goes over all entries from the
 //! first one and takes from each what it tells, so what it expects of a query comes from the history alone.
 use crate::frames::{call, key};
-use adapter::{Adapter, Caller, EntryView, Op, Parcel, Reply};
+use adapter::Adapter;
+use flow_calls::{Caller, EntryView, Op, Parcel, Reply};
 use arrayvec::ArrayVec;
 use flow_actions::{Action, Actions};
 use flow_rules::{Attr, Cause, Count, Fault, Limits, RuleSpec};

@@ -1,10 +1,11 @@
 //! Generated frames of all kinds of headers, on ways of all lengths, through an adapter's history and back. They are entered as they
 //! come, with room taken ahead, and packed before.
 ghost use Rattle.std.specs.Prelude.{◌≡◌};
-ghost use Rattle.adapter.specs.State.{flows_of, state_of};
+ghost use Rattle.port_state.specs.State.{flows_of, state_of};
 ghost use Rattle.flow_rules.specs.Walk.{verdict_of};
 
-use adapter::{Adapter, At, Call, Caller, EntryView, Op, Packed, Parcel};
+use adapter::{Adapter, Packed};
+use flow_calls::{At, Call, Caller, EntryView, Op, Parcel};
 use arrayvec::ArrayVec;
 use flow_actions::{ALL_RSS_TYPES, Action, Actions, Fate, Rss, Verdict};
 use flow_rules::{Attr, Limits, RuleSpec};

@@ -1,5 +1,6 @@
 //! The lines of a transcript: replies, refusals and a verdict with their texts, and how a capture ended.
-use adapter::{Adapter, At, BadKind, Call, Caller, EntryView, Op, Parcel, Reply};
+use adapter::Adapter;
+use flow_calls::{At, BadKind, Call, Caller, EntryView, Op, Parcel, Reply};
 use arrayvec::ArrayVec;
 use capture_files::CaptureKind;
 use flow_actions::{Fate, Verdict};

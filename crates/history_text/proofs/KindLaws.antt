@@ -1,7 +1,7 @@
 -- A kind and its numbers are read back from their text, whatever stands behind.
 use Rattle.std.proofs.Common.{◌≡◌, ℕ, true, false, List, ◌++◌, Some, refl}
 use Rattle.flow_rules.specs.declared.fault.Cause.TheVariants as causes
-use Rattle.adapter.specs.declared.call.BadKind.TheVariants as bads
+use Rattle.flow_calls.specs.declared.call.BadKind.TheVariants as bads
 use Rattle.history_text.specs.declared.kind.Kind.{Kind}
 use Rattle.history_text.specs.declared.kind.Kind.TheVariants as kinds
 use Rattle.history_text.specs.Forms.{form, filled}

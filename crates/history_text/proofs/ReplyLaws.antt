@@ -6,13 +6,13 @@ use Rattle.std.proofs.NetLemmas.Numbers.{NoDigit}
 use Rattle.flow_rules.specs.declared.limits.Limits.{Limits}
 use Rattle.flow_rules.specs.declared.fault.Cause.{Cause}
 use Rattle.flow_rules.specs.declared.fault.Cause.TheVariants as causes
-use Rattle.adapter.specs.declared.call.BadKind.TheVariants as bads
+use Rattle.flow_calls.specs.declared.call.BadKind.TheVariants as bads
 use Rattle.std.specs.List.{flat_map}
-use Rattle.adapter.specs.declared.rows.ListRow.{ListRow}
+use Rattle.flow_calls.specs.declared.rows.ListRow.{ListRow}
 use Rattle.history_text.specs.Rows.{row_text}
-use Rattle.adapter.specs.declared.reply.Totals.{Totals}
-use Rattle.adapter.specs.declared.reply.Reply.{Reply}
-use Rattle.adapter.specs.declared.reply.Reply.TheVariants as replies
+use Rattle.flow_calls.specs.declared.reply.Totals.{Totals}
+use Rattle.flow_calls.specs.declared.reply.Reply.{Reply}
+use Rattle.flow_calls.specs.declared.reply.Reply.TheVariants as replies
 use Rattle.history_text.specs.declared.cause.FaultPlace.{FaultPlace}
 use Rattle.history_text.specs.declared.cause.FaultPlace.TheVariants as places
 use Rattle.history_text.specs.declared.kind.Kind.{Kind}

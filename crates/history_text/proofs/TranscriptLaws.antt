@@ -5,14 +5,14 @@ use Rattle.std.specs.List.{flat_map}
 use Rattle.std.proofs.NetLemmas.Numbers.{NoDigit}
 use Rattle.flow_actions.specs.declared.verdict.Verdict.{Verdict}
 use Rattle.flow_rules.specs.declared.limits.Limits.{Limits}
-use Rattle.adapter.specs.declared.call.At.{At}
-use Rattle.adapter.specs.declared.call.Call.{Call}
-use Rattle.adapter.specs.declared.caller.Caller.{Caller}
-use Rattle.adapter.specs.declared.parcel.Parcel.{Parcel}
-use Rattle.adapter.specs.declared.reply.Reply.{Reply}
-use Rattle.adapter.specs.declared.entry.Entry.{Entry}
-use Rattle.adapter.specs.declared.entry.Entry.TheVariants.{Asked, Passed}
-use Rattle.adapter.specs.Totals.{totals_of}
+use Rattle.flow_calls.specs.declared.call.At.{At}
+use Rattle.flow_calls.specs.declared.call.Call.{Call}
+use Rattle.flow_calls.specs.declared.caller.Caller.{Caller}
+use Rattle.flow_calls.specs.declared.parcel.Parcel.{Parcel}
+use Rattle.flow_calls.specs.declared.reply.Reply.{Reply}
+use Rattle.flow_calls.specs.declared.entry.Entry.{Entry}
+use Rattle.flow_calls.specs.declared.entry.Entry.TheVariants.{Asked, Passed}
+use Rattle.flow_calls.specs.Totals.{totals_of}
 use Rattle.history_text.specs.declared.ending.Ending.{Ending}
 use Rattle.history_text.specs.Callers.{caller_text}
 use Rattle.history_text.specs.Endings.{ending_text}

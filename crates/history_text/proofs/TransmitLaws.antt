@@ -3,7 +3,7 @@ use Rattle.std.proofs.Common.{◌≡◌, List, [], ◌∷◌, ◌++◌, sym, ap,
 use Rattle.capture_files.specs.Record.{Frame}
 use Rattle.capture_files.specs.Writing.{header_bytes}
 use Rattle.flow_rules.specs.declared.limits.Limits.{Limits}
-use Rattle.adapter.specs.declared.entry.Entry.{Entry}
+use Rattle.flow_calls.specs.declared.entry.Entry.{Entry}
 use Rattle.history_text.specs.Transmit.{record_of_entry, records_of_entries, transmit_of}
 
 pub records_of_entries-append : (limits : Limits) (frames : List Frame) (before xs ys : List Entry)

@@ -1,6 +1,6 @@
 -- Who made an entry: the shell, the agent of a flow queue, or a packet worker.
 use Rattle.std.specs.Prelude.{◌-◌, ℕ, List, ◌++◌, nat_le, if◌then◌else◌, codes, decimal}
-use Rattle.adapter.specs.declared.caller.Caller.{Caller}
+use Rattle.flow_calls.specs.declared.caller.Caller.{Caller}
 
 abbrev pub caller_text : Caller → List ℕ
 caller_text caller =

@@ -2,7 +2,7 @@
 use Rattle.std.specs.Prelude.{ℕ, true, false, List, [], ◌∷◌, map, Some}
 use Rattle.flow_rules.specs.declared.fault.Cause.{Cause}
 use Rattle.flow_rules.specs.declared.fault.Cause.TheVariants as causes
-use Rattle.adapter.specs.declared.call.BadKind.TheVariants as bads
+use Rattle.flow_calls.specs.declared.call.BadKind.TheVariants as bads
 use Rattle.history_text.specs.declared.kind.Kind.{Kind}
 use Rattle.history_text.specs.declared.kind.Kind.TheVariants as kinds
 use Rattle.history_text.specs.Kinds.{kind_form}

@@ -1,8 +1,8 @@
 -- The table of the texts of replies, each with its numbers written `0`.
 use Rattle.std.specs.Prelude.{ℕ, true, false, List, [], ◌∷◌, codes}
-use Rattle.adapter.specs.declared.call.BadKind.TheVariants as bads
-use Rattle.adapter.specs.declared.reply.Reply.{Reply}
-use Rattle.adapter.specs.declared.reply.Reply.TheVariants as replies
+use Rattle.flow_calls.specs.declared.call.BadKind.TheVariants as bads
+use Rattle.flow_calls.specs.declared.reply.Reply.{Reply}
+use Rattle.flow_calls.specs.declared.reply.Reply.TheVariants as replies
 use Rattle.history_text.specs.declared.kind.Kind.{Kind}
 use Rattle.history_text.specs.declared.kind.Kind.TheVariants as kinds
 use Rattle.history_text.specs.Causes.{refusal_form, refusal_numbers}

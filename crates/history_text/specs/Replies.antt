@@ -2,8 +2,8 @@
 use Rattle.std.specs.Prelude.{ℕ, List, [], ◌++◌}
 use Rattle.std.specs.List.{flat_map}
 use Rattle.flow_rules.specs.declared.limits.Limits.{Limits}
-use Rattle.adapter.specs.declared.reply.Reply.{Reply}
-use Rattle.adapter.specs.declared.reply.Reply.TheVariants as replies
+use Rattle.flow_calls.specs.declared.reply.Reply.{Reply}
+use Rattle.flow_calls.specs.declared.reply.Reply.TheVariants as replies
 use Rattle.history_text.specs.Forms.{filled}
 use Rattle.history_text.specs.Kinds.{kind_form, spell}
 use Rattle.history_text.specs.Totals.{totals_text}

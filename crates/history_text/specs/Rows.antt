@@ -5,7 +5,7 @@ use Rattle.packet_headers.specs.declared.items.ItemKind.{ItemKind}
 use Rattle.packet_headers.specs.declared.items.ItemKind.TheVariants as items
 use Rattle.flow_actions.specs.declared.action.ActionKind.{ActionKind}
 use Rattle.flow_actions.specs.declared.action.ActionKind.TheVariants as actions
-use Rattle.adapter.specs.declared.rows.ListRow.{ListRow}
+use Rattle.flow_calls.specs.declared.rows.ListRow.{ListRow}
 use Rattle.history_text.specs.Forms.{filled}
 
 -- an item's name and a space

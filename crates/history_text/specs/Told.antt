@@ -5,15 +5,15 @@ use Rattle.flow_actions.specs.declared.verdict.Fate.{Fate}
 use Rattle.flow_actions.specs.declared.verdict.Fate.TheVariants as fates
 use Rattle.flow_actions.specs.declared.verdict.Verdict.{Verdict}
 use Rattle.flow_rules.specs.declared.limits.Limits.{Limits}
-use Rattle.adapter.specs.declared.rows.ListRow.{ListRow}
-use Rattle.adapter.specs.declared.reply.Totals.{Totals}
-use Rattle.adapter.specs.declared.reply.Reply.{Reply}
-use Rattle.adapter.specs.declared.reply.Reply.TheVariants as replies
+use Rattle.flow_calls.specs.declared.rows.ListRow.{ListRow}
+use Rattle.flow_calls.specs.declared.reply.Totals.{Totals}
+use Rattle.flow_calls.specs.declared.reply.Reply.{Reply}
+use Rattle.flow_calls.specs.declared.reply.Reply.TheVariants as replies
 use Rattle.history_text.specs.declared.cause.FaultPlace.{FaultPlace}
 use Rattle.history_text.specs.declared.cause.FaultPlace.TheVariants as places
-use Rattle.adapter.specs.declared.entry.Entry.{Entry}
-use Rattle.adapter.specs.declared.entry.Entry.TheVariants.{Asked, Passed}
-use Rattle.adapter.specs.Totals.{totals_of}
+use Rattle.flow_calls.specs.declared.entry.Entry.{Entry}
+use Rattle.flow_calls.specs.declared.entry.Entry.TheVariants.{Asked, Passed}
+use Rattle.flow_calls.specs.Totals.{totals_of}
 use Rattle.history_text.specs.declared.ending.Ending.{Ending}
 use Rattle.history_text.specs.declared.ending.Ending.TheVariants as endings
 use Rattle.history_text.specs.Causes.{told_of}

@@ -2,7 +2,7 @@
 use Rattle.std.specs.Prelude.{ℕ, List, [], ◌∷◌, ◌++◌, map, take, codes, decimal}
 use Rattle.io_edges.specs.Commas.{with_commas}
 use Rattle.flow_rules.specs.declared.limits.Limits.{Limits}
-use Rattle.adapter.specs.declared.reply.Totals.{Totals}
+use Rattle.flow_calls.specs.declared.reply.Totals.{Totals}
 use Rattle.history_text.specs.Forms.{filled}
 
 abbrev pub totals_text : Limits → Totals → List ℕ

@@ -8,10 +8,10 @@ use Rattle.flow_rules.specs.declared.limits.Limits.{Limits}
 use Rattle.flow_rules.specs.Walk.{Flows}
 use Rattle.flow_actions.specs.declared.verdict.Fate.{Fate}
 use Rattle.replica.specs.Rewritten.{rewritten}
-use Rattle.adapter.specs.declared.entry.Entry.{Entry}
-use Rattle.adapter.specs.declared.entry.Entry.TheVariants.{Asked, Passed}
-use Rattle.adapter.specs.State.{flows_of, state_of}
-use Rattle.adapter.specs.Totals.{is_drop}
+use Rattle.flow_calls.specs.declared.entry.Entry.{Entry}
+use Rattle.flow_calls.specs.declared.entry.Entry.TheVariants.{Asked, Passed}
+use Rattle.port_state.specs.State.{flows_of, state_of}
+use Rattle.flow_calls.specs.Totals.{is_drop}
 
 -- the record of a frame of these layers, behind the edits of its walk
 abbrev pub record_behind : Flows → List LayerAt → Frame → List ℕ

@@ -4,7 +4,7 @@ ghost use Rattle.io_edges.specs.Prints.{Prints};
 ghost use Rattle.history_text.specs.Callers.{caller_text};
 
 use crate::number::print_short;
-use adapter::Caller;
+use flow_calls::Caller;
 use io_edges::{Page, Sink, print};
 
 /// The number of the first agent, and of the first worker.

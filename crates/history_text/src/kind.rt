@@ -4,7 +4,7 @@ ghost use Rattle.std.specs.List.{concat};
 ghost use Rattle.history_text.specs.Kinds.{kind_form, plain, numbered, counted, spell};
 
 use crate::cause::{Numbers, refusal_form, refusal_numbers};
-use adapter::{BadKind, Reply};
+use flow_calls::{BadKind, Reply};
 use arrayvec::ArrayVec;
 use flow_rules::Cause;
 

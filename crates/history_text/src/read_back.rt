@@ -2,8 +2,8 @@
 ghost use Rattle.std.specs.Prelude.{◌≡◌, ℕ, List, ◌++◌, Some};
 ghost use Rattle.flow_actions.specs.declared.verdict.Verdict.{Verdict};
 ghost use Rattle.flow_rules.specs.declared.limits.Limits.{Limits};
-ghost use Rattle.adapter.specs.declared.reply.Reply.{Reply};
-ghost use Rattle.adapter.specs.declared.entry.Entry.{Entry};
+ghost use Rattle.flow_calls.specs.declared.reply.Reply.{Reply};
+ghost use Rattle.flow_calls.specs.declared.entry.Entry.{Entry};
 ghost use Rattle.history_text.specs.declared.ending.Ending.{Ending};
 ghost use Rattle.history_text.specs.declared.kind.Kind.{Kind};
 ghost use Rattle.history_text.specs.Forms.{form, filled};

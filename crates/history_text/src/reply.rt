@@ -8,7 +8,7 @@ use crate::form::print_form;
 use crate::kind::{kind_form, spell};
 use crate::row::print_rows;
 use crate::totals::print_totals;
-use adapter::Reply;
+use flow_calls::Reply;
 use flow_rules::Limits;
 use io_edges::{Page, Sink};
 

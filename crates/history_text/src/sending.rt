@@ -2,7 +2,7 @@
 ghost use Rattle.std.specs.Prelude.{◌≡◌, List, ◌++◌};
 ghost use Rattle.flow_rules.specs.declared.limits.Limits.{Limits};
 ghost use Rattle.capture_files.specs.Record.{Frame};
-ghost use Rattle.adapter.specs.declared.entry.Entry.{Entry};
+ghost use Rattle.flow_calls.specs.declared.entry.Entry.{Entry};
 ghost use Rattle.history_text.specs.Transmit.{records_of_entries, transmit_of};
 
 /// Entries that come behind others add their records behind those of the others.

@@ -5,7 +5,7 @@ ghost use Rattle.io_edges.specs.Prints.{Prints};
 ghost use Rattle.history_text.specs.Totals.{totals_text};
 
 use crate::form::print_form;
-use adapter::Totals;
+use flow_calls::Totals;
 use flow_rules::Limits;
 use io_edges::{Page, Sink, print_numbers};
 

@@ -6,7 +6,7 @@ ghost use Rattle.io_edges.specs.Faults.{HasCause};
 ghost use Rattle.io_edges.specs.Front.{TakesFront};
 ghost use Rattle.io_edges.specs.Gather.{gather_of};
 ghost use Rattle.io_edges.specs.Prints.{Prints};
-ghost use Rattle.adapter.specs.declared.entry.Entry.{Entry};
+ghost use Rattle.flow_calls.specs.declared.entry.Entry.{Entry};
 ghost use Rattle.adapter.specs.KeptLine.{IsLineOf};
 ghost use Rattle.adapter.specs.Seen.{entry_of};
 ghost use Rattle.history_text.specs.Text.{entry_text, end_text, text_of};
@@ -16,7 +16,8 @@ use crate::ending::{Ending, print_ending};
 use crate::reply::print_reply;
 use crate::totals::print_totals;
 use crate::verdict::print_verdict;
-use adapter::{Adapter, EntryView, LineView};
+use adapter::{Adapter, LineView};
+use flow_calls::EntryView;
 use flow_rules::Limits;
 use io_edges::{Page, Sink, WriteFault, finish, print, print_number};
 

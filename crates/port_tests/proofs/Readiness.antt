@@ -1,7 +1,7 @@
 -- Seats of a new port can ask, and those of a port that are handed in.
 use Rattle.std.proofs.Common.{◌≡◌, ℕ, ◌≤◌, ◌<◌, ◌++◌, List, length, map, get_or, All, sym, ap, ◌∙◌, subst, arith, length-append}
 use Rattle.std.proofs.lemmas.List.{get_or-map, get_or_append_left, length-map}
-use Rattle.adapter.specs.declared.caller.Caller.{Caller}
+use Rattle.flow_calls.specs.declared.caller.Caller.{Caller}
 use Rattle.flow_port.specs.declared.port.FlowPort.{FlowPort}
 use Rattle.flow_port.specs.declared.seat.PortSeat.{PortSeat}
 use Rattle.flow_port.specs.declared.seat.PortSeats.{PortSeats}

@@ -3,7 +3,8 @@ ghost use Rattle.std.specs.Prelude.{◌≡◌, ◌+◌, ◌<◌, ◌≤◌, leng
 ghost use Rattle.flow_port.specs.Ports.{AreDifferent, IsListOf, IsSeatAt, callers_of, limit_of, seats_in};
 ghost use Rattle.port_tests.specs.Asking.{IsPair, IsReady};
 
-use adapter::{Adapter, Caller};
+use adapter::Adapter;
+use flow_calls::Caller;
 use flow_port::{FlowPort, PortSeat, PortSeats};
 use std::alloc::Global;
 use std::process::Abort;

@@ -5,7 +5,8 @@ ghost use Rattle.port_tests.specs.Asking.{CanAsk};
 
 use crate::asked::{begins_with_both, call, is_query_of, pair_that_asked};
 use crate::seats::close_pair;
-use adapter::{Adapter, Caller, EntryView, Op};
+use adapter::Adapter;
+use flow_calls::{Caller, EntryView, Op};
 use flow_port::{FlowPort, PortSeat};
 use std::alloc::AllocError;
 use std::sync::Wait;

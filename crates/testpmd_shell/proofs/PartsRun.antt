@@ -6,8 +6,8 @@ use Rattle.std.proofs.lemmas.Grind.{common_steps}
 use Rattle.flow_rules.specs.declared.limits.Limits.{Limits}
 use Rattle.capture_files.specs.Record.{Frame}
 use Rattle.io_edges.specs.ShelfState.{ShelfState}
-use Rattle.adapter.specs.declared.call.Call.{Call}
-use Rattle.adapter.specs.declared.entry.Entry.{Entry}
+use Rattle.flow_calls.specs.declared.call.Call.{Call}
+use Rattle.flow_calls.specs.declared.entry.Entry.{Entry}
 use Rattle.adapter.specs.Seen.{Seen, Grows}
 use Rattle.flow_grammar.specs.declared.part.Part.{Part}
 use Rattle.flow_grammar.specs.declared.part.Part.TheVariants.{Section, Phase}

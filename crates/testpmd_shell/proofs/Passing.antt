@@ -4,8 +4,8 @@ use Rattle.std.specs.Prelude.{◌⊎◌}
 use Rattle.std.proofs.lemmas.Bool.Decides.{nat_tests}
 use Rattle.capture_files.specs.Record.{Frame}
 use Rattle.io_edges.specs.ShelfState.{SlotState}
-use Rattle.adapter.specs.declared.entry.Entry.{Entry}
-use Rattle.adapter.specs.declared.parcel.Parcel.{Parcel}
+use Rattle.flow_calls.specs.declared.entry.Entry.{Entry}
+use Rattle.flow_calls.specs.declared.parcel.Parcel.{Parcel}
 use Rattle.adapter.specs.Seen.{Seen, Grows}
 use Rattle.adapter.specs.History.{passed_by}
 use Rattle.flow_rules.specs.declared.limits.Limits.{Limits}

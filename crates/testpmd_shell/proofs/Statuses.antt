@@ -6,7 +6,7 @@ use Rattle.io_edges.specs.ShelfState.{ShelfState, WrittenState, read_faults, wri
 use Rattle.capture_files.specs.Writing.{header_bytes}
 use Rattle.io_edges.specs.Front.{TakesFront}
 use Rattle.capture_files.specs.Record.{Frame}
-use Rattle.adapter.specs.declared.entry.Entry.{Entry}
+use Rattle.flow_calls.specs.declared.entry.Entry.{Entry}
 use Rattle.adapter.specs.Seen.{Seen}
 use Rattle.flow_rules.specs.declared.limits.Limits.{Limits}
 use Rattle.flow_grammar.specs.declared.part.Part.{Part}

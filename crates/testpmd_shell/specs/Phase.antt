@@ -3,7 +3,7 @@ use Rattle.std.specs.Prelude.{◌≡◌, ℕ, ◌+◌, ◌-◌, ◌<◌, ◌≤�
 use Rattle.packet_headers.specs.Layers.{layers}
 use Rattle.capture_files.specs.Record.{Frame}
 use Rattle.io_edges.specs.ShelfState.{SlotState}
-use Rattle.adapter.specs.declared.parcel.Parcel.{Parcel}
+use Rattle.flow_calls.specs.declared.parcel.Parcel.{Parcel}
 use Rattle.adapter.specs.Seen.{Seen, Grows}
 use Rattle.whole_history.specs.Serial.{passes_of}
 use Rattle.testpmd_shell.specs.declared.feed.Feed.{Feed}

@@ -8,7 +8,7 @@ use Rattle.capture_files.specs.Record.{Frame}
 use Rattle.capture_files.specs.Writing.{record_bytes}
 use Rattle.flow_rules.specs.Walk.{Flows, verdict_of}
 use Rattle.adapter.specs.Seen.{Seen}
-use Rattle.adapter.specs.State.{flows_of, state_of}
+use Rattle.port_state.specs.State.{flows_of, state_of}
 use Rattle.history_text.specs.Transmit.{delivered, records_of_entries}
 use Rattle.testpmd_shell.specs.declared.feed.Arrived.{Arrived}
 use Rattle.testpmd_shell.specs.declared.sent.Sent.{Sent}

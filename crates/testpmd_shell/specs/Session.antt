@@ -6,7 +6,7 @@ use Rattle.io_edges.specs.ShelfState.{ShelfState, read_faults, write_faults}
 use Rattle.io_edges.specs.Front.{TakesFront}
 use Rattle.capture_files.specs.Record.{Frame}
 use Rattle.flow_rules.specs.declared.limits.Limits.{Limits}
-use Rattle.adapter.specs.declared.entry.Entry.{Entry}
+use Rattle.flow_calls.specs.declared.entry.Entry.{Entry}
 use Rattle.adapter.specs.History.{IsLegal}
 use Rattle.flow_grammar.specs.declared.part.Part.{Part}
 use Rattle.flow_grammar.specs.Program.{program_of}

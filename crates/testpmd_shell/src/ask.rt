@@ -3,7 +3,8 @@ ghost use Rattle.std.specs.Prelude.{◌≡◌, ◌≤◌, OnOk};
 ghost use Rattle.adapter.specs.Seen.{Grows};
 ghost use Rattle.whole_history.specs.Serial.{asks_of, all_asks_of};
 
-use adapter::{Adapter, Call, Caller};
+use adapter::Adapter;
+use flow_calls::{Call, Caller};
 use flow_grammar::CallList;
 use std::alloc::AllocError;
 

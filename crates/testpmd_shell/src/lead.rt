@@ -16,7 +16,8 @@ ghost use Rattle.testpmd_shell.specs.Sending.{record_of, records_kept, kept_in, 
 
 use crate::feed::Arrived;
 use crate::sent::Sent;
-use adapter::{Adapter, Caller, Parcel};
+use adapter::Adapter;
+use flow_calls::{Caller, Parcel};
 use flow_actions::{Fate, Verdict};
 use flow_rules::Limits;
 use packet_headers::{Key, parse};

@@ -2,7 +2,7 @@
 use Rattle.std.proofs.Common.{◌≡◌, ℕ, ◌+◌, List, [], ◌∷◌, ◌++◌, length, refl, sym, ap, ◌∙◌, append_assoc, append-nil, add-zero, arith}
 use Rattle.flow_rules.specs.declared.limits.Limits.{Limits}
 use Rattle.capture_files.specs.Record.{Frame}
-use Rattle.adapter.specs.declared.entry.Entry.{Entry}
+use Rattle.flow_calls.specs.declared.entry.Entry.{Entry}
 use Rattle.adapter.specs.History.{passed_by}
 use Rattle.whole_history.specs.Reach.{parcel_of}
 use Rattle.whole_history.specs.Serial.{caller_at, passes_of}

@@ -2,8 +2,8 @@
 use Rattle.std.proofs.Common.{ℕ, ◌+◌, List, [], ◌∷◌, ◌++◌, length, sym, append_assoc, append-nil, subst, refl}
 use Rattle.flow_rules.specs.declared.limits.Limits.{Limits}
 use Rattle.capture_files.specs.Record.{Frame}
-use Rattle.adapter.specs.declared.call.Call.{Call}
-use Rattle.adapter.specs.declared.entry.Entry.{Entry}
+use Rattle.flow_calls.specs.declared.call.Call.{Call}
+use Rattle.flow_calls.specs.declared.entry.Entry.{Entry}
 use Rattle.adapter.specs.History.{IsLegal, IsLegalBehind, asked_by, passed_by}
 use Rattle.flow_grammar.specs.declared.part.Part.{Part}
 use Rattle.flow_grammar.specs.declared.part.Part.TheVariants.{Section, Phase}

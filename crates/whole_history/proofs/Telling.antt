@@ -5,11 +5,11 @@ use Rattle.std.proofs.lemmas.List.Elements.{All-cons, All-nil}
 use Rattle.std.proofs.lemmas.Bool.Decides.{nat_tests}
 use Rattle.flow_rules.specs.declared.limits.Limits.{Limits}
 use Rattle.capture_files.specs.Record.{Frame}
-use Rattle.adapter.specs.declared.call.Call.{Call}
-use Rattle.adapter.specs.declared.entry.Entry.{Entry}
+use Rattle.flow_calls.specs.declared.call.Call.{Call}
+use Rattle.flow_calls.specs.declared.entry.Entry.{Entry}
 use Rattle.adapter.specs.History.{asked_by, passed_by}
-use Rattle.adapter.proofs.Entries.{calls_by-append, parcels_of-append, numbers_by-append, passers_of-append}
-use Rattle.adapter.specs.Entries.{calls_by, parcels_of, numbers_by, passers_of}
+use Rattle.flow_calls.proofs.Entries.{calls_by-append, parcels_of-append, numbers_by-append, passers_of-append}
+use Rattle.flow_calls.specs.Entries.{calls_by, parcels_of, numbers_by, passers_of}
 use Rattle.whole_history.specs.Reach.{parcel_of, parcels_from}
 use Rattle.whole_history.specs.Whole.{AreAsks}
 use Rattle.whole_history.specs.Serial.{caller_at, asks_of, all_asks_of, passes_of}

@@ -5,14 +5,14 @@ use Rattle.std.specs.List.Sorted.{IsStrictlyIncreasing}
 use Rattle.std.proofs.lemmas.List.FromFn.{length-range_with_len, get_or-range_with_len}
 use Rattle.flow_rules.specs.declared.limits.Limits.{Limits}
 use Rattle.capture_files.specs.Record.{Frame}
-use Rattle.adapter.specs.declared.call.Call.{Call}
-use Rattle.adapter.specs.declared.entry.Entry.{Entry}
+use Rattle.flow_calls.specs.declared.call.Call.{Call}
+use Rattle.flow_calls.specs.declared.entry.Entry.{Entry}
 use Rattle.adapter.specs.History.{asked_by}
-use Rattle.adapter.proofs.Entries.{calls_by-append, numbers_by-append, parcels_of-append, passers_of-append}
+use Rattle.flow_calls.proofs.Entries.{calls_by-append, numbers_by-append, parcels_of-append, passers_of-append}
 use Rattle.flow_grammar.specs.declared.part.Part.{Part}
 use Rattle.flow_grammar.specs.declared.part.Part.TheVariants.{Section, Phase}
 use Rattle.flow_grammar.specs.Calls.{calls_of}
-use Rattle.adapter.specs.Entries.{calls_by, parcels_of, numbers_by, passers_of}
+use Rattle.flow_calls.specs.Entries.{calls_by, parcels_of, numbers_by, passers_of}
 use Rattle.whole_history.specs.Reach.{first, taken_by, left_by, parcels_from}
 use Rattle.whole_history.specs.Whole.{IsMiddle, IsPart, IsWhole}
 use Rattle.whole_history.specs.Serial.{caller_at, asks_of, all_asks_of, passes_of, part_of, serial_from, serial}

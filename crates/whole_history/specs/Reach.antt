@@ -3,7 +3,7 @@ use Rattle.std.specs.Prelude.{ℕ, ◌+◌, nat_lt, Bool, true, false, List, [],
 use Rattle.std.specs.List.{list_any}
 use Rattle.packet_headers.specs.Layers.{layers}
 use Rattle.capture_files.specs.Record.{Frame}
-use Rattle.adapter.specs.declared.parcel.Parcel.{Parcel}
+use Rattle.flow_calls.specs.declared.parcel.Parcel.{Parcel}
 use Rattle.flow_grammar.specs.declared.part.Part.{Part}
 use Rattle.flow_grammar.specs.declared.part.Part.TheVariants.{Section, Phase}
 

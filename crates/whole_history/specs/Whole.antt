@@ -3,14 +3,14 @@
 use Rattle.std.specs.Prelude.{◌≡◌, ℕ, ◌+◌, ◌<◌, ◌≤◌, List, [], ◌∷◌, ◌++◌, length, All}
 use Rattle.std.specs.List.Sorted.{IsPermutation, IsStrictlyIncreasing}
 use Rattle.capture_files.specs.Record.{Frame}
-use Rattle.adapter.specs.declared.call.Call.{Call}
-use Rattle.adapter.specs.declared.parcel.Parcel.{Parcel}
-use Rattle.adapter.specs.declared.entry.Entry.{Entry}
-use Rattle.adapter.specs.declared.entry.Entry.TheVariants.{Asked, Passed}
+use Rattle.flow_calls.specs.declared.call.Call.{Call}
+use Rattle.flow_calls.specs.declared.parcel.Parcel.{Parcel}
+use Rattle.flow_calls.specs.declared.entry.Entry.{Entry}
+use Rattle.flow_calls.specs.declared.entry.Entry.TheVariants.{Asked, Passed}
 use Rattle.flow_grammar.specs.declared.part.Part.{Part}
 use Rattle.flow_grammar.specs.declared.part.Part.TheVariants.{Section, Phase}
 use Rattle.flow_grammar.specs.Calls.{calls_of}
-use Rattle.adapter.specs.Entries.{calls_by, parcels_of, numbers_by, passers_of}
+use Rattle.flow_calls.specs.Entries.{calls_by, parcels_of, numbers_by, passers_of}
 use Rattle.whole_history.specs.Reach.{taken_by, left_by, parcels_from}
 
 -- the entries are just these calls, asked by that caller in order

@@ -1,6 +1,6 @@
 //! Scripts, and the programs that they make.
 use crate::shown::{repeated, show_op, text_of};
-use adapter::Call;
+use flow_calls::Call;
 use flow_grammar::{Part, ProgramFault, program};
 use std::alloc::{AllocError, Global};
 use std::fmt::Write;

@@ -1,5 +1,5 @@
 //! What lines and calls say, as short texts for the tests.
-use adapter::{ActionLists, BadKind, Op, TableTemplates};
+use flow_calls::{ActionLists, BadKind, Op, TableTemplates};
 use flow_actions::{Action, Actions, Rss};
 use flow_grammar::{Line, read_line};
 use flow_rules::{Attr, RuleSpec};

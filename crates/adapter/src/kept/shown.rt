@@ -6,8 +6,9 @@ ghost use Rattle.adapter.specs.Kept.{entry_kept, entry_with, plain_key, stack_ke
 ghost use Rattle.adapter.specs.KeptLine.{IsLineOf};
 
 use super::{Head, Kept, Plain, Steps};
-use crate::entry::{EntryView, LineView};
-use crate::parcel::Parcel;
+use crate::line::LineView;
+use flow_calls::EntryView;
+use flow_calls::Parcel;
 use arrayvec::ArrayVec;
 use flow_actions::{MAX_PATH, Verdict};
 use packet_headers::{Eth, Key, Network, Stack, Tags};

@@ -1,12 +1,12 @@
 //! Boxes that were taken ahead, so that a frame of any kind can be kept without memory.
 ghost use Rattle.std.specs.Prelude.{◌≡◌, ◌+◌, ◌≤◌, length, IfSome, OnOk};
-ghost use Rattle.adapter.specs.declared.entry.Entry.TheVariants.{Passed};
+ghost use Rattle.flow_calls.specs.declared.entry.Entry.TheVariants.{Passed};
 ghost use Rattle.adapter.specs.Kept.{entry_kept, entry_with, plain_key};
 
 use super::shown::{same_parcel, same_verdict};
 use super::{Kept, Long, Plain, head_of, plain_of};
-use crate::caller::Caller;
-use crate::parcel::Parcel;
+use flow_calls::Caller;
+use flow_calls::Parcel;
 use arrayvec::ArrayVec;
 use flow_actions::{Fate, Verdict};
 use packet_headers::Key;

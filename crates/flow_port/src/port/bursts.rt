@@ -1,7 +1,7 @@
 //! How a worker lets frames pass.
 ghost use Rattle.std.specs.Prelude.{◌≡◌, ◌+◌, ◌<◌, ◌≤◌, ◌++◌, [], length, OnOk, OnErr};
 ghost use Rattle.turn_book.specs.Views.{BeginsWith};
-ghost use Rattle.adapter.specs.Entries.{entries_by};
+ghost use Rattle.flow_calls.specs.Entries.{entries_by};
 ghost use Rattle.adapter.specs.History.{IsLegal};
 ghost use Rattle.flow_port.specs.Bursts.{Rise, passed_all, verdicts_by};
 ghost use Rattle.flow_port.specs.Ports.{Grew, IsSeatAt, limits_of, mine, seen, since, turns, whose};
@@ -11,7 +11,7 @@ use crate::frames::{Frames, pack};
 use crate::port::FlowPort;
 use crate::port::turns::pass_in_turn;
 use crate::seat::PortSeat;
-use adapter::Parcel;
+use flow_calls::Parcel;
 use arrayvec::ArrayVec;
 use flow_actions::Verdict;
 use replica::Replica;

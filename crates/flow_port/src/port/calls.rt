@@ -1,15 +1,15 @@
 //! How a caller asks.
 ghost use Rattle.std.specs.Prelude.{◌≡◌, ◌+◌, ◌<◌, ◌≤◌, ◌++◌, [], ◌∷◌, IfOk, OnErr};
 ghost use Rattle.turn_book.specs.Views.{BeginsWith};
-ghost use Rattle.adapter.specs.declared.entry.Entry.TheVariants.{Asked};
-ghost use Rattle.adapter.specs.Entries.{entries_by};
+ghost use Rattle.flow_calls.specs.declared.entry.Entry.TheVariants.{Asked};
+ghost use Rattle.flow_calls.specs.Entries.{entries_by};
 ghost use Rattle.adapter.specs.History.{IsLegal};
 ghost use Rattle.flow_port.specs.Ports.{Grew, IsSeatAt, limits_of, mine, seen, since, turns, whose};
 
 use crate::port::FlowPort;
 use crate::port::turns::ask_in_turn;
 use crate::seat::PortSeat;
-use adapter::{Call, Reply};
+use flow_calls::{Call, Reply};
 use std::alloc::AllocError;
 use std::sync::Wait;
 

@@ -1,14 +1,15 @@
 //! How a port is made with its seats, and how it is closed.
 ghost use Rattle.std.specs.Prelude.{◌≡◌, ◌≤◌, map, length, All, Contains, IfOk, IfErr};
 ghost use Rattle.turn_book.specs.Views.{BeginsWith};
-ghost use Rattle.adapter.specs.Entries.{caller_of, entries_by};
+ghost use Rattle.flow_calls.specs.Entries.{caller_of, entries_by};
 ghost use Rattle.adapter.specs.History.{IsLegal};
 ghost use Rattle.flow_port.specs.Ports.{AreAllAt, AreDifferent, IsFreshAt, IsListOf, callers_of, limit_of, limits_of, mine, opening_of, seats_in, seen, since, whose};
 
 use crate::held::Held;
 use crate::port::FlowPort;
 use crate::seat::PortSeats;
-use adapter::{Adapter, Caller};
+use adapter::Adapter;
+use flow_calls::Caller;
 use arrayvec::ArrayVec;
 use std::alloc::Global;
 use turn_book::Book;

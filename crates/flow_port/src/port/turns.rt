@@ -2,7 +2,7 @@
 ghost use Rattle.std.specs.Prelude.{◌≡◌, ◌+◌, ◌<◌, ◌≤◌, ◌++◌, List, [], length, IfOk, OnOk, OnErr};
 ghost use Rattle.turn_book.specs.Views.{BeginsWith};
 ghost use Rattle.turn_book.specs.Books.{IsSeatOf, mine, opened, seen};
-ghost use Rattle.adapter.specs.declared.entry.Entry.{Entry};
+ghost use Rattle.flow_calls.specs.declared.entry.Entry.{Entry};
 ghost use Rattle.adapter.specs.History.{IsLegal};
 ghost use Rattle.flow_port.specs.Bursts.{passed_all, verdicts_by};
 ghost use Rattle.flow_port.specs.Calls.{entry_left};
@@ -13,7 +13,8 @@ ghost use Rattle.flow_port.specs.Standing.{IsCurrent, Stands};
 
 use crate::frames::Frames;
 use crate::held::Held;
-use adapter::{Call, Caller, Packed, Reply};
+use adapter::Packed;
+use flow_calls::{Call, Caller, Reply};
 use arrayvec::ArrayVec;
 use flow_actions::Verdict;
 use replica::Replica;

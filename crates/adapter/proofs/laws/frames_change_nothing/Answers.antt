@@ -1,4 +1,4 @@
-use Rattle.adapter.specs.declared.entry.Entry.TheVariants.{Passed}
+use Rattle.flow_calls.specs.declared.entry.Entry.TheVariants.{Passed}
 use Rattle.adapter.proofs.ChangesTold.{changes_of-passed}
 use Rattle.adapter.proofs.SoundGrowth.{state_of-push}
 use Rattle.adapter.proofs.laws.frames_change_nothing.Goals as goal

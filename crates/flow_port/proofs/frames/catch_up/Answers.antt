@@ -1,6 +1,6 @@
 use Rattle.std.proofs.Common.{◌∙◌, drop, ap}
 use Rattle.std.proofs.lemmas.Result.{on_ok_weaker}
-use Rattle.adapter.specs.Changes.{changes_of}
+use Rattle.port_state.specs.Changes.{changes_of}
 use Rattle.flow_port.proofs.Standing.{Stands-followed, current-caught, lawful-left}
 use Rattle.flow_port.proofs.frames.catch_up.Goals as goal
 

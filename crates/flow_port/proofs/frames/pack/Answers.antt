@@ -1,5 +1,5 @@
 use Rattle.std.proofs.Common.{rules, ◌≡◌, ◌∙◌, ◌+◌, ◌++◌, [], ◌∷◌, length, get_or, sym, ap, length-append}
-use Rattle.adapter.specs.declared.entry.Entry.TheVariants.{Passed}
+use Rattle.flow_calls.specs.declared.entry.Entry.TheVariants.{Passed}
 use Rattle.flow_port.proofs.Passing.{passed_none, passed_next}
 use Rattle.flow_port.proofs.frames.pack.Goals as goal
 

@@ -1,5 +1,5 @@
 use Rattle.std.proofs.Common.{ap}
-use Rattle.adapter.specs.declared.reply.Reply.TheVariants.{Stopped}
+use Rattle.flow_calls.specs.declared.reply.Reply.TheVariants.{Stopped}
 use Rattle.io_edges.proofs.Joins.{Prints-as}
 use Rattle.history_text.specs.Replies.{behind_text}
 use Rattle.history_text.proofs.reply.print_behind.Goals as goal

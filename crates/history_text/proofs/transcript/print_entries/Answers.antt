@@ -1,7 +1,7 @@
 use Rattle.std.proofs.Common.{ℕ, ◌≡◌, ◌<◌, ◌≤◌, zero, suc, List, [], ◌∷◌, length, Some, IfSome, refl, ap, arith, subst}
 use Rattle.std.proofs.lemmas.List.{take_all}
 use Rattle.std.specs.List.{flat_map, slice_get}
-use Rattle.adapter.specs.declared.entry.Entry.{Entry}
+use Rattle.flow_calls.specs.declared.entry.Entry.{Entry}
 use Rattle.adapter.specs.KeptLine.{IsLineOf}
 use Rattle.history_text.specs.Text.{entry_text}
 use Rattle.io_edges.proofs.Joins.{Prints-none, Prints-next, Prints-as}

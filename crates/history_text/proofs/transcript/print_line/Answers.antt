@@ -1,6 +1,6 @@
 use Rattle.std.proofs.Common.{◌≡◌, ◌∙◌, [], ◌∷◌, ◌++◌, codes, ap, subst, sym}
-use Rattle.adapter.specs.declared.parcel.Parcel.{Parcel}
-use Rattle.adapter.specs.declared.entry.Entry.TheVariants.{Asked, Passed}
+use Rattle.flow_calls.specs.declared.parcel.Parcel.{Parcel}
+use Rattle.flow_calls.specs.declared.entry.Entry.TheVariants.{Asked, Passed}
 use Rattle.adapter.specs.KeptLine.{IsLineOf}
 use Rattle.io_edges.proofs.Joins.{Prints-then, Prints-as}
 use Rattle.history_text.specs.Callers.{caller_text}

@@ -1,6 +1,6 @@
 use Rattle.std.proofs.Common.{◌∙◌, drop, sym, ap}
 use Rattle.std.proofs.lemmas.Result.{on_ok_weaker}
-use Rattle.adapter.specs.Changes.{changes_of}
+use Rattle.port_state.specs.Changes.{changes_of}
 use Rattle.flow_port.proofs.Standing.{current-caught, flows-current, lawful-left}
 use Rattle.testpmd_shell.proofs.lead.catch_up.Goals as goal
 

@@ -1,6 +1,6 @@
 use Rattle.std.proofs.Common.{sym, subst, List}
 use Rattle.std.proofs.lemmas.Result.{on_ok_weaker}
-use Rattle.adapter.specs.declared.call.Call.{Call}
+use Rattle.flow_calls.specs.declared.call.Call.{Call}
 use Rattle.adapter.specs.Seen.{Grows}
 use Rattle.flow_grammar.specs.declared.part.Part.{Part}
 use Rattle.whole_history.specs.Serial.{asks_of}

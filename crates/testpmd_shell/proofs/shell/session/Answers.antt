@@ -1,5 +1,5 @@
 use Rattle.std.proofs.Common.{map, sym, subst, List}
-use Rattle.adapter.specs.declared.entry.Entry.{Entry}
+use Rattle.flow_calls.specs.declared.entry.Entry.{Entry}
 use Rattle.adapter.specs.History.{IsLegal}
 use Rattle.whole_history.specs.Whole.{IsWhole}
 use Rattle.whole_history.proofs.LegalSerial.{IsLegal-serial}

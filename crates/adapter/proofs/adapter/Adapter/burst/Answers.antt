@@ -1,7 +1,7 @@
 use Rattle.std.proofs.Common.{rules, ◌≡◌, ℕ, [], ◌∷◌, ◌++◌, List, sym, ap, ◌∙◌, subst, append-nil}
 use Rattle.std.proofs.lemmas.List.{nil_from_length}
-use Rattle.adapter.specs.declared.entry.Entry.{Entry}
-use Rattle.adapter.specs.Standing.{standing_kept, Counts}
+use Rattle.flow_calls.specs.declared.entry.Entry.{Entry}
+use Rattle.port_state.specs.Standing.{standing_kept, Counts}
 use Rattle.adapter.proofs.Bursts.{Entering, Entering-next, first-below}
 use Rattle.adapter.proofs.SoundGrowth.{HasRoom-totals}
 use Rattle.adapter.proofs.adapter.Adapter.burst.Goals as goal

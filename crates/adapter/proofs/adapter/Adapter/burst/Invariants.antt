@@ -1,5 +1,5 @@
 use Rattle.std.proofs.Common.{◌≡◌, ◌++◌}
-use Rattle.adapter.specs.Standing.{standing_kept}
+use Rattle.port_state.specs.Standing.{standing_kept}
 use Rattle.adapter.proofs.Bursts.{Entering}
 use Rattle.adapter.proofs.adapter.Adapter.burst.Given as goal
 

@@ -5,13 +5,13 @@ use Rattle.flow_rules.specs.declared.change.Change.{Change}
 use Rattle.flow_rules.specs.Changes.{changed}
 use Rattle.flow_rules.specs.Lawful.{AreLawful}
 use Rattle.flow_rules.specs.Limits.{AreLimits}
-use Rattle.adapter.specs.declared.entry.Entry.{Entry}
+use Rattle.flow_calls.specs.declared.entry.Entry.{Entry}
 use Rattle.adapter.specs.declared.spare.Spare.{Spare}
 use Rattle.flow_rules.specs.declared.limits.Limits.{Limits}
-use Rattle.adapter.specs.Changes.{HasFewActions, changes_of, flows_at}
+use Rattle.port_state.specs.Changes.{HasFewActions, changes_of, flows_at}
 use Rattle.adapter.specs.Seen.{Seen}
 use Rattle.adapter.specs.Sound.{AreTold}
-use Rattle.adapter.specs.State.{flows_of, state_of}
+use Rattle.port_state.specs.State.{flows_of, state_of}
 use Rattle.adapter.proofs.ChangesTold.{flows-from, lawful-from}
 use Rattle.adapter.proofs.adapter.Adapter.changes_from.Goals as goal
 

@@ -1,7 +1,7 @@
 use Rattle.std.proofs.Common.{refl, sym, subst, List}
-use Rattle.adapter.specs.declared.entry.Entry.{Entry}
-use Rattle.adapter.specs.KeptState.{state_in, count_in}
-use Rattle.adapter.specs.Standing.{Standing}
+use Rattle.flow_calls.specs.declared.entry.Entry.{Entry}
+use Rattle.port_state.specs.KeptState.{state_in, count_in}
+use Rattle.port_state.specs.Standing.{Standing}
 use Rattle.adapter.specs.Sound.{Sound, AreTold}
 use Rattle.adapter.proofs.ChangesTold.{AreTold-nil}
 use Rattle.adapter.proofs.SoundGrowth.{Sound-nil, no_totals}

@@ -1,9 +1,9 @@
 use Rattle.std.proofs.Common.{ℕ, sym, ap, ◌∙◌, subst, List}
 use Rattle.flow_rules.specs.Walk.{verdict_of}
-use Rattle.adapter.specs.declared.entry.Entry.{Entry}
+use Rattle.flow_calls.specs.declared.entry.Entry.{Entry}
 use Rattle.adapter.specs.Seen.{Seen}
-use Rattle.adapter.specs.State.{flows_of, state_of}
-use Rattle.adapter.specs.Standing.{standing_kept, Counts}
+use Rattle.port_state.specs.State.{flows_of, state_of}
+use Rattle.port_state.specs.Standing.{standing_kept, Counts}
 use Rattle.adapter.specs.Sound.{Sound, AreTold}
 use Rattle.adapter.proofs.ChangesTold.{AreTold-passed}
 use Rattle.adapter.proofs.SoundGrowth.{Sound-passed, IsBelow-verdict, HasRoom-totals, HasRoomFor-counts}

@@ -3,21 +3,21 @@ use Rattle.std.specs.Option.{option_to_list}
 use Rattle.flow_rules.specs.declared.change.Change.{Change}
 use Rattle.flow_rules.specs.declared.limits.Limits.{Limits}
 use Rattle.flow_rules.specs.declared.counter.Counter.{Counter}
-use Rattle.adapter.specs.declared.call.Op.{Op}
-use Rattle.adapter.specs.declared.reply.Reply.{Reply}
-use Rattle.adapter.specs.declared.entry.Entry.{Entry}
-use Rattle.adapter.specs.declared.entry.Entry.TheVariants.{Asked}
+use Rattle.flow_calls.specs.declared.call.Op.{Op}
+use Rattle.flow_calls.specs.declared.reply.Reply.{Reply}
+use Rattle.flow_calls.specs.declared.entry.Entry.{Entry}
+use Rattle.flow_calls.specs.declared.entry.Entry.TheVariants.{Asked}
 use Rattle.adapter.specs.Seen.{Seen}
 use Rattle.adapter.specs.Kept.{entry_kept}
-use Rattle.adapter.specs.State.{State, flows_of, next_state}
-use Rattle.adapter.specs.Counters.{is_there, while_there}
-use Rattle.adapter.specs.KeptState.{KeptState, state_in, count_in}
-use Rattle.adapter.specs.Standing.{Standing, standing_kept}
-use Rattle.adapter.specs.Changes.{changes_by}
-use Rattle.adapter.specs.Effect.{done}
-use Rattle.adapter.specs.Reply.{answer_of, reply_to}
+use Rattle.port_state.specs.State.{State, flows_of, next_state}
+use Rattle.port_state.specs.Counters.{is_there, while_there}
+use Rattle.port_state.specs.KeptState.{KeptState, state_in, count_in}
+use Rattle.port_state.specs.Standing.{Standing, standing_kept}
+use Rattle.port_state.specs.Changes.{changes_by}
+use Rattle.port_state.specs.Effect.{done}
+use Rattle.port_state.specs.Reply.{answer_of, reply_to}
 use Rattle.adapter.specs.Sound.{Sound, AreTold}
-use Rattle.adapter.proofs.StateKept.{IsUnder, IsUnder-next, IsFresh-under}
+use Rattle.port_state.proofs.StateKept.{IsUnder, IsUnder-next, IsFresh-under}
 use Rattle.adapter.proofs.ChangesTold.{AreTold-push}
 use Rattle.adapter.proofs.SoundGrowth.{Sound-asked, IsUnder-sound, reply-sound, answer-counts}
 use Rattle.adapter.proofs.adapter.Adapter.step.Goals as goal

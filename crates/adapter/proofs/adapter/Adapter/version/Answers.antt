@@ -1,6 +1,6 @@
 use Rattle.std.proofs.Common.{ap, ◌∙◌, length, subst}
 use Rattle.std.specs.List.{All}
-use Rattle.adapter.specs.Changes.{HasFewActions, changes_of}
+use Rattle.port_state.specs.Changes.{HasFewActions, changes_of}
 use Rattle.adapter.specs.Seen.{Seen}
 use Rattle.adapter.proofs.adapter.Adapter.version.Goals as goal
 

@@ -1,5 +1,5 @@
 use Rattle.std.proofs.Common.{◌≡◌, ◌+◌, [], ◌∷◌, ◌++◌, length, arith, ap, subst, sym}
-use Rattle.adapter.specs.declared.call.Op.TheVariants as ops
+use Rattle.flow_calls.specs.declared.call.Op.TheVariants as ops
 use Rattle.flow_grammar.specs.Program.{call_at}
 use Rattle.flow_grammar.specs.Limits.{calls_in}
 use Rattle.flow_grammar.specs.Draft.{open_calls, IsCounted}

@@ -1,7 +1,7 @@
 use Rattle.std.proofs.Common.{◌≡◌, ◌∙◌, List, map, length, All, subst, sym, ap, arith}
 use Rattle.std.specs.List.{range_with_len}
 use Rattle.std.proofs.lemmas.List.{take_all}
-use Rattle.adapter.specs.declared.caller.Caller.{Caller}
+use Rattle.flow_calls.specs.declared.caller.Caller.{Caller}
 use Rattle.turn_book.specs.Seats as book_seats
 use Rattle.flow_port.specs.declared.port.FlowPort.{FlowPort}
 use Rattle.flow_port.specs.Ports.{with_caller, callers_of, whose, IsFreshAt, AreDifferent}

@@ -1,0 +1,11 @@
+pub mod Changes
+pub mod Counted
+pub mod Counters
+pub mod Effect
+pub mod KeptState
+pub mod Raising
+pub mod Reply
+pub mod Standing
+pub mod State
+pub mod StateInside
+pub mod Tables
