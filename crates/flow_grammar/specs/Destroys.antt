@@ -15,6 +15,7 @@ id_word objects.Indirect = codes "action_id"
 id_word objects.PatternTemplate = codes "pattern_template"
 id_word objects.ActionsTemplate = codes "actions_template"
 id_word objects.Table = codes "table"
+id_word (objects.Queued queue postpone) = codes "rule"
 
 -- how many bits an id has
 abbrev pub id_bits : Object → ℕ
@@ -23,6 +24,7 @@ id_bits objects.Indirect = 16
 id_bits objects.PatternTemplate = 16
 id_bits objects.ActionsTemplate = 16
 id_bits objects.Table = 16
+id_bits (objects.Queued queue postpone) = 32
 
 -- the call that destroys one of them
 abbrev pub destroy_of : Object → ℕ → Op
@@ -31,6 +33,7 @@ destroy_of objects.Indirect id = ops.IndirectDestroy id
 destroy_of objects.PatternTemplate id = ops.PatternTemplateDestroy id
 destroy_of objects.ActionsTemplate id = ops.ActionsTemplateDestroy id
 destroy_of objects.Table id = ops.TableDestroy id
+destroy_of (objects.Queued queue postpone) id = ops.QueueDestroy queue postpone id
 
 -- `WORD ID { WORD ID }` and no more: at most 64 ids of so many bits
 unfoldable pub listed_ids : List ℕ → ℕ → List (List ℕ) → Option (List ℕ)

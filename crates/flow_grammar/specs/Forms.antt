@@ -3,14 +3,11 @@ use Rattle.std.specs.Prelude.{ℕ, ◌==◌, ◌&&◌, nat_le, List, [], ◌∷�
 use Rattle.flow_calls.specs.declared.call.Op.{Op}
 use Rattle.flow_calls.specs.declared.call.Op.TheVariants as ops
 use Rattle.flow_calls.specs.declared.call.BadKind.TheVariants as kinds
-use Rattle.flow_actions.specs.declared.action.Actions.{Actions}
 use Rattle.flow_rules.specs.declared.spec.RuleSpec.{RuleSpec}
 use Rattle.rule_words.specs.Turns.{◌>>=◌}
 use Rattle.rule_words.specs.Vocabulary.{meaning_of}
 use Rattle.rule_words.specs.Number.{first_number}
 use Rattle.rule_words.specs.Attributes.{attributes_of}
-use Rattle.rule_words.specs.Items.{items_of}
-use Rattle.rule_words.specs.Actions.{actions_of}
 use Rattle.rule_words.specs.Flags.{flag_and_rest}
 use Rattle.flow_grammar.specs.declared.line.Line.{Line}
 use Rattle.flow_grammar.specs.declared.line.Line.TheVariants as lines
@@ -21,21 +18,17 @@ use Rattle.flow_grammar.specs.declared.verbs.Verb.TheVariants as verb
 use Rattle.flow_grammar.specs.declared.destroys.Object.TheVariants as objects
 use Rattle.flow_grammar.specs.Words.{behind, at_end}
 use Rattle.flow_grammar.specs.Destroys.{destroys_of}
+use Rattle.flow_grammar.specs.RuleLists.{rule_lists_of}
 use Rattle.flow_grammar.specs.IndirectActions.{indirect_asked}
 use Rattle.flow_grammar.specs.Templates.{patterns_asked, actions_asked, tables_asked}
-
--- the actions of words that end with them
-unfoldable pub last_actions_of : List (List ℕ) → Option Actions
-last_actions_of words = actions_of words >>= λ actions. at_end actions.1 actions.0
+use Rattle.flow_grammar.specs.Queues.{configure_of, queue_asked, push_of, pull_of}
 
 -- `ATTRS pattern ITEMS actions ACTIONS`, and no more
 unfoldable pub rule_of : List (List ℕ) → Option RuleSpec
 rule_of words = do
   attr ← attributes_of (codes "pattern") words
-  pattern ← items_of attr.1
-  rest ← behind (codes "actions") pattern.1
-  actions ← last_actions_of rest
-  Some (record { attr = attr.0; pattern = pattern.0; actions = actions })
+  lists ← rule_lists_of attr.1
+  Some (record { attr = attr.0; pattern = lists.pattern; actions = lists.actions })
 
 -- `RULE count`
 unfoldable pub query_of : List (List ℕ) → Option Op
@@ -62,6 +55,10 @@ verbs =
     ∷ (codes "pattern_template", verb.PatternTemplate)
     ∷ (codes "actions_template", verb.ActionsTemplate)
     ∷ (codes "template_table", verb.TemplateTable)
+    ∷ (codes "configure", verb.Configure)
+    ∷ (codes "queue", verb.Queue)
+    ∷ (codes "push", verb.Push)
+    ∷ (codes "pull", verb.Pull)
     ∷ []
 
 -- what the words behind `flow VERB PORT` ask
@@ -77,6 +74,10 @@ asked verb.IndirectAction words = indirect_asked words
 asked verb.PatternTemplate words = patterns_asked words
 asked verb.ActionsTemplate words = actions_asked words
 asked verb.TemplateTable words = tables_asked words
+asked verb.Configure words = option_map (λ op. op ∷ []) (configure_of words)
+asked verb.Queue words = queue_asked words
+asked verb.Push words = option_map (λ op. op ∷ []) (push_of words)
+asked verb.Pull words = option_map (λ op. op ∷ []) (pull_of words)
 
 -- a flow line asks on port 0, the only one
 abbrev pub on_port : ℕ → List Op → Line

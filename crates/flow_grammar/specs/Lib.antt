@@ -6,6 +6,8 @@ pub mod Limits
 pub mod Line
 pub mod Lines
 pub mod Program
+pub mod Queues
+pub mod RuleLists
 pub mod Calls
 pub mod Templates
 pub mod Words

@@ -1,7 +1,8 @@
 -- The words of a line.
-use Rattle.std.specs.Prelude.{ℕ, ◌==◌, ◌||◌, ◌&&◌, Bool, true, false, not, nat_le, List, [], ◌∷◌, filter, bytes_eq, Option, None, Some, option_map, if◌then◌else◌}
+use Rattle.std.specs.Prelude.{ℕ, ◌==◌, ◌||◌, ◌&&◌, Bool, true, false, not, nat_le, List, [], ◌∷◌, filter, bytes_eq, Option, None, Some, option_map, option_and_then, if◌then◌else◌}
 use Rattle.std.specs.List.{slice_split, take_while, list_all}
 use Rattle.rule_words.specs.Number.{first_number}
+use Rattle.rule_words.specs.Vocabulary.{meaning_of}
 
 -- a space (32) or a tab (9)
 abbrev pub is_blank : ℕ → Bool
@@ -38,6 +39,15 @@ behind leading (word ∷ words) = if bytes_eq word leading then Some words else 
 abbrev pub at_end : {X : Type 0} → List (List ℕ) → X → Option X
 at_end [] x = Some x
 at_end (word ∷ words) x = None
+
+-- what the first word means in a table, and the words behind it
+abbrev pub first_meaning : {X : Type 0} → List (List ℕ × X) → List (List ℕ) → Option (X × List (List ℕ))
+first_meaning table [] = None
+first_meaning table (word ∷ words) = option_map (λ meaning. (meaning, words)) (meaning_of table word)
+
+-- a number of so many bits behind this word, and the words behind it
+abbrev pub number_behind : List ℕ → ℕ → List (List ℕ) → Option (ℕ × List (List ℕ))
+number_behind name bits words = option_and_then (first_number bits) (behind name words)
 
 -- an id of 16 bits, where words begin with its name, and the words behind it
 abbrev pub given_id : List ℕ → List (List ℕ) → Option (Option ℕ × List (List ℕ))

@@ -18,6 +18,8 @@ pub(crate) enum Object {
     ActionsTemplate,
     /// A template table.
     Table,
+    /// A rule of a table, by way of this flow queue.
+    Queued { queue: u16, postpone: bool },
 }
 
 /// The most ids of a line that destroys: it asks for as many calls.
@@ -34,6 +36,7 @@ impl Object {
             Object::PatternTemplate => b"pattern_template",
             Object::ActionsTemplate => b"actions_template",
             Object::Table => b"table",
+            Object::Queued { .. } => b"rule",
         }
     }
 
@@ -48,6 +51,7 @@ impl Object {
             Object::PatternTemplate => 16,
             Object::ActionsTemplate => 16,
             Object::Table => 16,
+            Object::Queued { .. } => 32,
         }
     }
 
@@ -62,6 +66,11 @@ impl Object {
             Object::PatternTemplate => Op::PatternTemplateDestroy(id as u16),
             Object::ActionsTemplate => Op::ActionsTemplateDestroy(id as u16),
             Object::Table => Op::TableDestroy(id as u16),
+            Object::Queued { queue, postpone } => Op::QueueDestroy {
+                queue,
+                postpone,
+                rule: id,
+            },
         }
     }
 }

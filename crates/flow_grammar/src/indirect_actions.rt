@@ -1,17 +1,17 @@
 //! What `flow indirect_action PORT ..` asks.
-ghost use Rattle.std.specs.Prelude.{◌≡◌, [], ◌∷◌, IfOk, map, option_map};
+ghost use Rattle.std.specs.Prelude.{◌≡◌, IfOk, map, option_map};
 ghost use Rattle.flow_calls.specs.declared.call.Op.TheVariants as ops;
 ghost use Rattle.flow_grammar.specs.IndirectActions as spec;
-ghost use Rattle.rule_words.specs.Vocabulary.{meaning_of};
+ghost use Rattle.flow_grammar.specs.Words.{first_meaning};
 
 use crate::destroys::{Object, read_destroys};
 use crate::numbers::{given_id, number_16};
 use crate::op_list::{OpList, one_op};
-use crate::words::{behind, if_last};
-use flow_calls::Op;
+use crate::words::{behind, first_meaning, if_last};
 use flow_actions::Action;
+use flow_calls::Op;
 use flow_rules::Attr;
-use rule_words::{meaning, read_action, read_directions};
+use rule_words::{read_action, read_directions};
 use shared_value::Shared;
 use std::alloc::{AllocError, Global};
 
@@ -31,21 +31,19 @@ static VERBS: [(&str, IndirectVerb); 4] = [
     ("query", IndirectVerb::Query),
 ];
 
-/// The verb that a word is.
-fn indirect_verb_of(word: &[u8]) -> Option<IndirectVerb>
-    ensures { result ≡ meaning_of spec.verbs word.now }
+/// What the first word asks of an action that rules share, and the words behind it.
+pub(crate) fn indirect_verb<'w, 'a>(words: &'w [&'a [u8]]) -> Option<(IndirectVerb, &'w [&'a [u8]])>
+    ensures { option_map (λ read. (read.0, map (λ word. word.now) read.1.now)) result
+        ≡ first_meaning spec.verbs (map (λ word. word.now) words.entry.now) }
 {
-    meaning(&VERBS, word)
+    first_meaning(&VERBS, words)
 }
 
 /// The ops that the words behind `flow indirect_action PORT` ask for.
 pub(crate) fn read_indirect(alloc: Global, words: &[&[u8]]) -> Result<Option<OpList>, AllocError>
     ensures { IfOk result (λ ops. ops ≡ spec.indirect_asked (map (λ word. word.now) words.now)) }
 {
-    let Some((word, rest)) = words.split_first() else {
-        return Ok(None);
-    };
-    let Some(verb) = indirect_verb_of(word) else {
+    let Some((verb, rest)) = indirect_verb(words) else {
         return Ok(None);
     };
     read_asked(alloc, verb, rest)
@@ -78,9 +76,9 @@ fn read_create(alloc: Global, words: &[&[u8]]) -> Result<Option<Op>, AllocError>
     Ok(Some(Op::IndirectCreate { id, attr, action }))
 }
 
-#[tactic(auto, unfolding(crate::specs::IndirectActions::create_of))]
-fn created_words(words: &[&[u8]]) -> Option<(Option<u16>, Attr, Action)>
-    ensures { option_map (λ read. ops.IndirectCreate read.0 read.1 read.2) result ≡ spec.create_of (map (λ word. word.now) words.now) }
+#[tactic(auto, unfolding(crate::specs::IndirectActions::created_of))]
+pub(crate) fn created_words(words: &[&[u8]]) -> Option<(Option<u16>, Attr, Action)>
+    ensures { result ≡ spec.created_of (map (λ word. word.now) words.now) }
 {
     let (id, rest) = given_id(b"action_id", words)?;
     let (attr, rest) = read_directions(b"action", rest)?;
@@ -104,9 +102,17 @@ fn updated_words(words: &[&[u8]]) -> Option<(u16, Action)>
     ensures { option_map (λ read. ops.IndirectUpdate read.0 read.1) result ≡ spec.update_of (map (λ word. word.now) words.now) }
 {
     let (id, rest) = number_16(words)?;
-    let rest = behind(b"action", rest)?;
-    let action = read_last_action(rest)?;
+    let action = read_new_action(rest)?;
     Some((id, action))
+}
+
+/// `action ACTION / end`.
+#[tactic(auto, unfolding(crate::specs::IndirectActions::new_action_of))]
+pub(crate) fn read_new_action(words: &[&[u8]]) -> Option<Action>
+    ensures { result ≡ spec.new_action_of (map (λ word. word.now) words.now) }
+{
+    let rest = behind(b"action", words)?;
+    read_last_action(rest)
 }
 
 /// `ID`.

@@ -54,6 +54,8 @@ mod numbers;
 mod op_list;
 mod part;
 mod program_fault;
+mod queues;
+mod rule_lists;
 mod script;
 mod templates;
 mod verbs;

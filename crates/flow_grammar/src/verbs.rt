@@ -6,12 +6,13 @@ ghost use Rattle.rule_words.specs.Vocabulary.{meaning_of};
 use crate::destroys::{Object, read_destroys};
 use crate::indirect_actions::read_indirect;
 use crate::op_list::{OpList, one_op};
+use crate::queues::{read_configure, read_pull, read_push, read_queue};
+use crate::rule_lists::read_rule_lists;
 use crate::templates::{read_actions_template, read_pattern_template, read_template_table};
 use crate::words::{behind, if_last};
-use flow_calls::Op;
-use flow_actions::Actions;
+use flow_calls::{Op, RuleLists};
 use flow_rules::RuleSpec;
-use rule_words::{first_number, flag_and_rest, meaning, read_actions, read_attributes, read_items};
+use rule_words::{first_number, flag_and_rest, meaning, read_attributes};
 use shared_value::Shared;
 use std::alloc::{AllocError, Global};
 
@@ -29,9 +30,13 @@ pub(crate) enum Verb {
     PatternTemplate,
     ActionsTemplate,
     TemplateTable,
+    Configure,
+    Queue,
+    Push,
+    Pull,
 }
 
-static VERBS: [(&str, Verb); 11] = [
+static VERBS: [(&str, Verb); 15] = [
     ("validate", Verb::Validate),
     ("create", Verb::Create),
     ("destroy", Verb::Destroy),
@@ -43,6 +48,10 @@ static VERBS: [(&str, Verb); 11] = [
     ("pattern_template", Verb::PatternTemplate),
     ("actions_template", Verb::ActionsTemplate),
     ("template_table", Verb::TemplateTable),
+    ("configure", Verb::Configure),
+    ("queue", Verb::Queue),
+    ("push", Verb::Push),
+    ("pull", Verb::Pull),
 ];
 
 /// The verb that a word is.
@@ -84,6 +93,10 @@ pub(crate) fn read_ops(
         Verb::PatternTemplate => read_pattern_template(alloc, words),
         Verb::ActionsTemplate => read_actions_template(alloc, words),
         Verb::TemplateTable => read_template_table(alloc, words),
+        Verb::Configure => one_op(alloc, read_configure(words)),
+        Verb::Queue => read_queue(alloc, words),
+        Verb::Push => one_op(alloc, read_push(words)),
+        Verb::Pull => one_op(alloc, read_pull(words)),
     }
 }
 
@@ -93,26 +106,12 @@ fn read_rule(words: &[&[u8]]) -> Option<RuleSpec>
     ensures { result ≡ spec.rule_of (map (λ word. word.now) words.now) }
 {
     let (attr, rest) = read_attributes(b"pattern", words)?;
-    let (pattern, rest) = read_items(rest)?;
-    let rest = behind(b"actions", rest)?;
-    let actions = read_last_actions(rest)?;
+    let RuleLists { pattern, actions } = read_rule_lists(rest)?;
     Some(RuleSpec {
         attr,
         pattern,
         actions,
     })
-}
-
-/// The actions of words that end with them.
-#[tactic(auto, unfolding(crate::specs::Forms::last_actions_of))]
-fn read_last_actions(words: &[&[u8]]) -> Option<Actions>
-    ensures { result ≡ spec.last_actions_of (map (λ word. word.now) words.now) }
-{
-    let (actions, rest) = read_actions(words)?;
-    if !rest.is_empty() {
-        return None;
-    }
-    Some(actions)
 }
 
 /// `RULE count`.

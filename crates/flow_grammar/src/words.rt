@@ -4,6 +4,7 @@ ghost use Rattle.std.specs.Option.{option_map};
 ghost use Rattle.std.specs.List.{list_all};
 ghost use Rattle.flow_grammar.specs.Words as spec;
 
+use rule_words::meaning;
 use std::alloc::{AllocError, Global};
 
 /// The words between spaces and tabs, up to the first that begins with `#`.
@@ -54,6 +55,19 @@ pub(crate) fn behind<'w, 'a>(leading: &[u8], words: &'w [&'a [u8]]) -> Option<&'
         return None;
     }
     Some(rest)
+}
+
+/// What the first word means in a table, and the words behind it.
+pub(crate) fn first_meaning<'w, 'a, T: Copy>(
+    table: &[(&'static str, T)],
+    words: &'w [&'a [u8]],
+) -> Option<(T, &'w [&'a [u8]])>
+    ensures { option_map (λ read. (read.0, map (λ word. word.now) read.1.now)) result
+        ≡ spec.first_meaning (map (λ row. (row.0.now, row.1)) table.now) (map (λ word. word.now) words.entry.now) }
+{
+    let (word, rest) = words.split_first()?;
+    let meaning = meaning(table, word)?;
+    Some((meaning, rest))
 }
 
 /// A value, where no word is left.
