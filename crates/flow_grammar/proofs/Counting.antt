@@ -12,6 +12,7 @@ use Rattle.flow_grammar.specs.declared.draft.Draft.{Draft}
 use Rattle.flow_grammar.specs.Program.{call_at, calls_at, ops_of, opening_at, section_of, phase_of, parts_from}
 use Rattle.flow_grammar.specs.Limits.{calls_in}
 use Rattle.flow_grammar.specs.Draft.{program_with, open_calls, IsCounted}
+use Rattle.flow_grammar.proofs.Dealing.{length-dealt}
 
 pub calls_in-append : (a b : List Part) → calls_in (a ++ b) ≡ calls_in a + calls_in b
 calls_in-append [] b = sym (zero-add (calls_in b))
@@ -41,7 +42,7 @@ counted-start old new (Some opening) calls count none counted is = cc
 pub counted-end : (old new : List Part) (opening : Opening) (before : Option Opening) (calls : List Call) (n count : ℕ) → before ≡ Some opening
     → count ≡ calls_in old + open_calls before calls → new ≡ old ++ phase_of opening calls n ∷ [] → count ≡ calls_in new
 counted-end old new opening before calls n count some counted is =
-    omega (arith, ap calls_in is, calls_in-append old (phase_of opening calls n ∷ []), counted, ap (λ o. open_calls o calls) some)
+    omega (arith, ap calls_in is, calls_in-append old (phase_of opening calls n ∷ []), length-dealt calls, counted, ap (λ o. open_calls o calls) some)
 
 -- a line's calls add to those of the open part
 more : (opening : Option Opening) (calls added : List Call) (n : ℕ) (rest : List Line)
@@ -51,7 +52,7 @@ more opening calls added n rest h = omega (arith, h, open_calls-append opening c
 -- the lines that follow add calls, and take none away
 pub open_calls-le : (opening : Option Opening) (calls : List Call) (n : ℕ) (said : List Line) → open_calls opening calls ≤ calls_in (parts_from opening calls n said)
 open_calls-le None calls n [] = omega (arith, calls_in-section calls)
-open_calls-le (Some opening) calls n [] = omega arith
+open_calls-le (Some opening) calls n [] = omega (arith, length-dealt calls)
 open_calls-le None calls n (lines.Start count ∷ rest) =
     omega (arith, calls_in-append (section_of calls) (parts_from (Some (opening_at n count)) [] (n + 1) rest), calls_in-section calls)
 open_calls-le None calls n (lines.Quit ∷ rest) =
@@ -60,8 +61,8 @@ open_calls-le None calls n (lines.Calls asked ∷ rest) = more None calls (calls
 open_calls-le None calls n (lines.Stop ∷ rest) = more None calls (calls_at n 1 (ops_of lines.Stop)) (n + 1) rest (open_calls-le None (calls ++ calls_at n 1 (ops_of lines.Stop)) (n + 1) rest)
 open_calls-le None calls n (lines.Blank ∷ rest) = more None calls [] (n + 1) rest (open_calls-le None (calls ++ []) (n + 1) rest)
 open_calls-le None calls n (lines.Bad kind ∷ rest) = more None calls (calls_at n 1 (ops_of (lines.Bad kind))) (n + 1) rest (open_calls-le None (calls ++ calls_at n 1 (ops_of (lines.Bad kind))) (n + 1) rest)
-open_calls-le (Some opening) calls n (lines.Stop ∷ rest) = omega arith
-open_calls-le (Some opening) calls n (lines.Quit ∷ rest) = omega arith
+open_calls-le (Some opening) calls n (lines.Stop ∷ rest) = omega (arith, length-dealt calls)
+open_calls-le (Some opening) calls n (lines.Quit ∷ rest) = omega (arith, length-dealt calls)
 open_calls-le (Some opening) calls n (lines.Calls asked ∷ rest) = more (Some opening) calls (calls_at n 1 asked) (n + 1) rest (open_calls-le (Some opening) (calls ++ calls_at n 1 asked) (n + 1) rest)
 open_calls-le (Some opening) calls n (lines.Start count ∷ rest) = more (Some opening) calls (calls_at n 1 (ops_of (lines.Start count))) (n + 1) rest (open_calls-le (Some opening) (calls ++ calls_at n 1 (ops_of (lines.Start count))) (n + 1) rest)
 open_calls-le (Some opening) calls n (lines.Blank ∷ rest) = more (Some opening) calls [] (n + 1) rest (open_calls-le (Some opening) (calls ++ []) (n + 1) rest)
@@ -70,7 +71,7 @@ open_calls-le (Some opening) calls n (lines.Bad kind ∷ rest) = more (Some open
 -- the script ends here
 end-is : (opening : Option Opening) (calls : List Call) (n : ℕ) → calls_in (parts_from opening calls n []) ≡ open_calls opening calls
 end-is None calls n = calls_in-section calls
-end-is (Some opening) calls n = omega arith
+end-is (Some opening) calls n = omega (arith, length-dealt calls)
 
 -- what a draft has counted is in the program
 pub count-le : (draft : Draft) (n : ℕ) (said : List Line) → IsCounted draft → draft.count ≤ calls_in (program_with draft n said)

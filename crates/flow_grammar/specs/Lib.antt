@@ -5,6 +5,7 @@ pub mod IndirectActions
 pub mod Limits
 pub mod Line
 pub mod Lines
+pub mod Owners
 pub mod Program
 pub mod Queues
 pub mod RuleLists

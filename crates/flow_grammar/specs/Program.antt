@@ -11,6 +11,7 @@ use Rattle.flow_grammar.specs.declared.part.Part.TheVariants as parts
 use Rattle.flow_grammar.specs.declared.draft.Opening.{Opening}
 use Rattle.flow_grammar.specs.Line.{line_of}
 use Rattle.flow_grammar.specs.Lines.{lines_of}
+use Rattle.flow_grammar.specs.Owners.{owned_by, agent_calls}
 
 -- a line's call: the line and the part count from 1
 abbrev pub call_at : ℕ → ℕ → Op → Call
@@ -40,16 +41,14 @@ abbrev pub section_of : List Call → List Part
 section_of [] = []
 section_of (call ∷ calls) = parts.Section (call ∷ calls) ∷ []
 
--- the calls of the eight agents, of which no line is one's so far
-abbrev pub no_agent_calls : List (List Call)
-no_agent_calls = [] ∷ [] ∷ [] ∷ [] ∷ [] ∷ [] ∷ [] ∷ [] ∷ []
-
--- the phase that a line closes, or the end of the script as the line behind the last one
+-- the phase that a line closes, or the end of the script as the line behind the last one: of the calls in it each is its
+-- owner's
 abbrev pub phase_of : Opening → List Call → ℕ → Part
-phase_of opening calls line =
-    parts.Phase (call_at opening.line 1 (ops.Start opening.count)) opening.count calls no_agent_calls (call_at line 1 ops.Stop)
+phase_of opening calls line = parts.Phase (call_at opening.line 1 (ops.Start opening.count)) opening.count (owned_by 0 calls) (agent_calls calls)
+    (call_at line 1 ops.Stop)
 
--- The parts of the lines from number n on. Before them stand the calls of a section, or of the phase that is open.
+-- The parts of the lines from number n on. Before them stand the calls of a section, or of the phase that is open, in the
+-- order of their lines.
 -- `quit` ends the script, and first closes the phase that is open. A line that neither opens nor closes a phase, nor ends
 -- the script, adds its calls to those before it.
 abbrev pub parts_from : Option Opening → List Call → ℕ → List Line → List Part

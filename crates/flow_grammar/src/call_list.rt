@@ -46,6 +46,14 @@ impl CallList {
         self.calls.len()
     }
 
+    /// The calls themselves.
+    pub(crate) fn into_calls(self) -> Vec<Call>
+        ensures { result.items ≡ self }
+    {
+        let CallList { calls } = self;
+        calls
+    }
+
     pub(crate) fn is_empty(&self) -> bool
         ensures { IsTrue result ↔ (self.now ≡ []) }
     {

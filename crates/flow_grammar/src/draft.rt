@@ -2,10 +2,11 @@
 ghost use Rattle.std.specs.Prelude.{◌≡◌, ◌+◌, ◌≤◌, ◌^◌, ◌<◌, ◌∷◌, ◌++◌, [], IfOk, OnOk, length};
 ghost use Rattle.flow_grammar.specs.Draft.{program_with, TakesIn, IsCounted};
 ghost use Rattle.flow_grammar.specs.Program as spec;
-ghost use Rattle.flow_grammar.specs.Program.{calls_at, section_of, phase_of, no_agent_calls};
+ghost use Rattle.flow_grammar.specs.Program.{calls_at, section_of, phase_of};
 
 use crate::call_list::CallList;
 use crate::line::Line;
+use crate::owners::{Dealt, deal};
 use crate::part::{Part, Program};
 use flow_calls::{At, BadKind, Call, Op};
 use std::alloc::{AllocError, Global};
@@ -161,12 +162,13 @@ impl Draft {
         ensures count { self.new.count ≡ self.old.count }
     {
         self.opening = None;
-        let shell = mem::replace(&mut self.calls, CallList::new(alloc));
+        let calls = mem::replace(&mut self.calls, CallList::new(alloc));
+        let Dealt { shell, agents } = deal(alloc, calls)?;
         self.parts.push(Part::Phase {
             opening: call_at(opening.line, 1, Op::Start(opening.count)),
             count: opening.count,
             shell,
-            agents: no_calls(alloc),
+            agents,
             closing: call_at(number, 1, Op::Stop),
         })?;
         Ok(())
@@ -188,22 +190,6 @@ impl Draft {
         } = self;
         Ok(Program::new(parts))
     }
-}
-
-/// The calls of eight agents that have none.
-fn no_calls(alloc: Global) -> [CallList; 8]
-    ensures { result ≡ no_agent_calls }
-{
-    [
-        CallList::new(alloc),
-        CallList::new(alloc),
-        CallList::new(alloc),
-        CallList::new(alloc),
-        CallList::new(alloc),
-        CallList::new(alloc),
-        CallList::new(alloc),
-        CallList::new(alloc),
-    ]
 }
 
 fn call_at(line: u32, part: u16, op: Op) -> Call

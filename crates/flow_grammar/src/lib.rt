@@ -52,6 +52,7 @@ mod line;
 mod lines;
 mod numbers;
 mod op_list;
+mod owners;
 mod part;
 mod program_fault;
 mod queues;
