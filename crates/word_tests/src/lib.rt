@@ -16,6 +16,8 @@ mod items;
 #[cfg(test)]
 mod lines;
 #[cfg(test)]
+mod queues;
+#[cfg(test)]
 mod relations;
 #[cfg(test)]
 mod scripts;

@@ -318,7 +318,7 @@ type Long = (
     &'static str,
 );
 
-static LONG_LINES: [Long; 10] = [
+static LONG_LINES: [Long; 11] = [
     (
         "a line lists 64 ids",
         b"flow destroy 0",
@@ -347,6 +347,14 @@ static LONG_LINES: [Long; 10] = [
         "a line does not list 65 shared actions, of whatever port",
         b"flow indirect_action 1 destroy",
         b" action_id 9",
+        65,
+        b"",
+        "bad",
+    ),
+    (
+        "a line does not list 65 rules for a flow queue, of whatever port",
+        b"flow queue 1 destroy 0 postpone yes",
+        b" rule 9",
         65,
         b"",
         "bad",

@@ -1,7 +1,7 @@
 //! Scripts, and the programs that they make.
 use crate::shown::{repeated, show_op, text_of};
 use flow_calls::Call;
-use flow_grammar::{Part, ProgramFault, program};
+use flow_grammar::{CallList, Part, ProgramFault, program};
 use std::alloc::{AllocError, Global};
 use std::fmt::Write;
 use std::process::Abort;
@@ -21,6 +21,18 @@ fn show_calls(out: &mut String, calls: &[Call]) -> Result<(), AllocError> {
     Ok(())
 }
 
+/// The calls of the agents that have some, by flow queue.
+fn show_agents(out: &mut String, agents: &[CallList]) -> Result<(), AllocError> {
+    for (queue, calls) in agents.iter().enumerate() {
+        if calls.len() != 0 {
+            write!(out, " agent {queue} (")?;
+            show_calls(out, calls.as_slice())?;
+            out.push_str(" )")?;
+        }
+    }
+    Ok(())
+}
+
 fn show_part(out: &mut String, part: &Part) -> Result<(), AllocError> {
     match part {
         Part::Section(calls) => {
@@ -31,14 +43,15 @@ fn show_part(out: &mut String, part: &Part) -> Result<(), AllocError> {
             opening,
             count,
             shell,
+            agents,
             closing,
-            ..
         } => {
             out.push_str(if count.is_some() { "some" } else { "phase" })?;
             show_call(out, opening)?;
             out.push_str(" (")?;
             show_calls(out, shell.as_slice())?;
             out.push_str(" )")?;
+            show_agents(out, agents.as_slice())?;
             show_call(out, closing)?;
         }
     }
@@ -112,6 +125,62 @@ fn a_script_is_sections_and_phases(rt: HostRuntime) -> Result<(), Fail> {
     each_script_says(&rt, rt.alloc(), &A_SCRIPT_IS_SECTIONS_AND_PHASES)
 }
 
+static IN_A_PHASE_AN_AGENT_HAS_THE_LINES_OF_ITS_FLOW_QUEUE: [(&[u8], &str); 11] = [
+    (
+        b"start\nflow pull 0 queue 0\nflow list 0\nstop\n",
+        "phase 1.1 start ( 3.1 list ) agent 0 ( 2.1 pull 0 ) 4.1 stop;",
+    ),
+    (
+        b"start\nflow pull 0 queue 8\nflow push 0 queue 7\nflow push 0 queue 65535\nstop\n",
+        "phase 1.1 start ( 2.1 pull 8 4.1 push 65535 ) agent 7 ( 3.1 push 7 ) 5.1 stop;",
+    ),
+    (
+        b"flow pull 0 queue 0\nstart\nstop\nflow push 0 queue 1\n",
+        "section 1.1 pull 0;phase 2.1 start ( ) 3.1 stop;section 4.1 push 1;",
+    ),
+    (
+        b"start\nflow queue 0 destroy 1 rule 4 rule 5\nflow push 0 queue 1\nquit\n",
+        "phase 1.1 start ( ) agent 1 ( 2.1 queue 1 destroy 4; 2.2 queue 1 destroy 5; 3.1 push 1 ) 4.1 stop;section 4.2 quit;",
+    ),
+    (
+        b"start\nflow queue 0 destroy 8 rule 4 rule 5\n",
+        "phase 1.1 start ( 2.1 queue 8 destroy 4; 2.2 queue 8 destroy 5; ) 3.1 stop;",
+    ),
+    (
+        b"start\nflow pull 1 queue 0\nflow pull 0 queue\nflow pull 0 queue 0\n",
+        "phase 1.1 start ( 2.1 port 3.1 bad ) agent 0 ( 4.1 pull 0 ) 5.1 stop;",
+    ),
+    (
+        b"start\nflow configure 0 queues_number 1 queues_size 4\nstart\n",
+        "phase 1.1 start ( 2.1 configure 1 of 4 3.1 already-started ) 4.1 stop;",
+    ),
+    (
+        b"start\nflow push 0 queue 3\nflow push 0 queue 2\nflow pull 0 queue 3\nflow pull 0 queue 2\n",
+        "phase 1.1 start ( ) agent 2 ( 3.1 push 2 5.1 pull 2 ) agent 3 ( 2.1 push 3 4.1 pull 3 ) 6.1 stop;",
+    ),
+    (
+        b"start\nflow queue 0 create 4 template_table 1 pattern_template 0 actions_template 0 pattern end actions end\n",
+        "phase 1.1 start ( ) agent 4 ( 2.1 queue 4 create 1.0.0 ) 3.1 stop;",
+    ),
+    (
+        b"start\nflow queue 0 indirect_action 5 create action count / end\nflow queue 0 indirect_action 5 update 1 action drop / end\nflow queue 0 indirect_action 6 destroy action_id 1\n",
+        "phase 1.1 start ( ) agent 5 ( 2.1 queue 5 indirect create count no-ingress 3.1 queue 5 indirect 1 update drop ) agent 6 ( 4.1 queue 6 indirect 1 destroy; ) 5.1 stop;",
+    ),
+    (
+        b"forward 1\nflow pull 0 queue 0\nstop\nforward 1\nflow pull 0 queue 1\nstop\n",
+        "some 1.1 start 1 ( ) agent 0 ( 2.1 pull 0 ) 3.1 stop;some 4.1 start 1 ( ) agent 1 ( 5.1 pull 1 ) 6.1 stop;",
+    ),
+];
+
+#[test]
+fn in_a_phase_an_agent_has_the_lines_of_its_flow_queue(rt: HostRuntime) -> Result<(), Fail> {
+    each_script_says(
+        &rt,
+        rt.alloc(),
+        &IN_A_PHASE_AN_AGENT_HAS_THE_LINES_OF_ITS_FLOW_QUEUE,
+    )
+}
+
 static QUIT_ENDS_THE_SCRIPT_AND_FIRST_THE_PHASE: [(&[u8], &str); 9] = [
     (b"quit", "section 1.1 quit;"),
     (b"\nquit\n", "section 2.1 quit;"),
@@ -160,7 +229,7 @@ type Large = (
     bool,
 );
 
-static LARGE_SCRIPTS: [Large; 16] = [
+static LARGE_SCRIPTS: [Large; 18] = [
     ("65,536 empty lines", b"", b"\n", 65_536, b"", false),
     ("65,537 empty lines", b"", b"\n", 65_537, b"", true),
     (
@@ -258,6 +327,22 @@ static LARGE_SCRIPTS: [Large; 16] = [
         b"x\n",
         65_534,
         b"quit\n",
+        true,
+    ),
+    (
+        "65,534 calls of an agent in a phase",
+        b"start\n",
+        b"flow pull 0 queue 0\n",
+        65_534,
+        b"",
+        false,
+    ),
+    (
+        "65,535 calls of an agent in a phase",
+        b"start\n",
+        b"flow pull 0 queue 0\n",
+        65_535,
+        b"",
         true,
     ),
     (

@@ -1,6 +1,6 @@
 //! What lines and calls say, as short texts for the tests.
-use flow_calls::{ActionLists, BadKind, Op, TableTemplates};
 use flow_actions::{Action, Actions, Rss};
+use flow_calls::{ActionLists, BadKind, Op, RuleLists, TableTemplates};
 use flow_grammar::{Line, read_line};
 use flow_rules::{Attr, RuleSpec};
 use packet_headers::ItemKind;
@@ -249,6 +249,108 @@ fn show_template_op(out: &mut String, op: &Op) -> Result<(), AllocError> {
     }
 }
 
+/// The flow queue of an operation, and whether it is only held.
+fn show_queue(out: &mut String, queue: u16, postpone: bool) -> Result<(), AllocError> {
+    write!(out, "queue {queue} ")?;
+    if postpone {
+        out.push_str("held ")?;
+    }
+    Ok(())
+}
+
+/// The creation of a rule of a table: the table and the indexes of its templates, the actions and the items.
+fn show_bound(
+    out: &mut String,
+    table: u16,
+    pt: u16,
+    act: u16,
+    lists: &RuleLists,
+) -> Result<(), AllocError> {
+    write!(out, "create {table}.{pt}.{act}")?;
+    show_actions(out, &lists.actions)?;
+    show_items(out, &lists.pattern)
+}
+
+/// A new value of an action that rules share.
+fn show_update(out: &mut String, id: u16, action: &Action) -> Result<(), AllocError> {
+    write!(out, "indirect {id} update")?;
+    show_action(out, action)
+}
+
+/// The operations on flow queues.
+fn show_queued(out: &mut String, op: &Op) -> Result<(), AllocError> {
+    match op {
+        Op::QueueCreate {
+            queue,
+            postpone,
+            table,
+            pt,
+            act,
+            lists,
+        } => {
+            show_queue(out, *queue, *postpone)?;
+            show_bound(out, *table, *pt, *act, lists.get())
+        }
+        Op::QueueDestroy {
+            queue,
+            postpone,
+            rule,
+        } => {
+            show_queue(out, *queue, *postpone)?;
+            let rule = *rule;
+            write!(out, "destroy {rule};")
+        }
+        Op::QueueIndirectCreate {
+            queue,
+            postpone,
+            id,
+            attr,
+            action,
+        } => {
+            show_queue(out, *queue, *postpone)?;
+            show_indirect(out, id, attr, action.get())
+        }
+        _ => Ok(()),
+    }
+}
+
+/// The other operations on flow queues, and what else is asked of them.
+fn show_queue_op(out: &mut String, op: &Op) -> Result<(), AllocError> {
+    match op {
+        Op::QueueIndirectUpdate {
+            queue,
+            postpone,
+            id,
+            action,
+        } => {
+            show_queue(out, *queue, *postpone)?;
+            show_update(out, *id, action.get())
+        }
+        Op::QueueIndirectDestroy {
+            queue,
+            postpone,
+            id,
+        } => {
+            show_queue(out, *queue, *postpone)?;
+            show_end(out, "indirect", *id)
+        }
+        Op::Configure { queues, size } => {
+            let queues = *queues;
+            let size = *size;
+            write!(out, "configure {queues} of {size}")
+        }
+        Op::Push(queue) => {
+            let queue = *queue;
+            write!(out, "push {queue}")
+        }
+        Op::Pull(queue) => {
+            let queue = *queue;
+            write!(out, "pull {queue}")
+        }
+        _ => show_queued(out, op),
+    }
+}
+
 pub(crate) fn show_op(out: &mut String, op: &Op) -> Result<(), AllocError> {
     match op {
         Op::Validate(rule) => show_rule(out, "validate", rule.get()),
@@ -266,15 +368,8 @@ pub(crate) fn show_op(out: &mut String, op: &Op) -> Result<(), AllocError> {
         Op::Isolate(true) => out.push_str("isolate on"),
         Op::Isolate(false) => out.push_str("isolate off"),
         Op::IndirectCreate { id, attr, action } => show_indirect(out, id, attr, action.get()),
-        Op::IndirectUpdate { id, action } => {
-            let id = *id;
-            write!(out, "indirect {id} update")?;
-            show_action(out, action.get())
-        }
-        Op::IndirectDestroy(id) => {
-            let id = *id;
-            write!(out, "indirect {id} destroy;")
-        }
+        Op::IndirectUpdate { id, action } => show_update(out, *id, action.get()),
+        Op::IndirectDestroy(id) => show_end(out, "indirect", *id),
         Op::IndirectQuery(id) => {
             let id = *id;
             write!(out, "indirect {id} query")
@@ -285,6 +380,14 @@ pub(crate) fn show_op(out: &mut String, op: &Op) -> Result<(), AllocError> {
         | Op::ActionsTemplateDestroy(_)
         | Op::TableCreate { .. }
         | Op::TableDestroy(_) => show_template_op(out, op),
+        Op::Configure { .. }
+        | Op::QueueCreate { .. }
+        | Op::QueueDestroy { .. }
+        | Op::QueueIndirectCreate { .. }
+        | Op::QueueIndirectUpdate { .. }
+        | Op::QueueIndirectDestroy { .. }
+        | Op::Push(_)
+        | Op::Pull(_) => show_queue_op(out, op),
         Op::Start(None) => out.push_str("start"),
         Op::Start(Some(count)) => {
             let count = *count;
