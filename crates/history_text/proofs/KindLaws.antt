@@ -2,6 +2,7 @@
 use Rattle.std.proofs.Common.{◌≡◌, ℕ, true, false, List, ◌++◌, Some, refl}
 use Rattle.flow_rules.specs.declared.fault.Cause.TheVariants as causes
 use Rattle.flow_calls.specs.declared.call.BadKind.TheVariants as bads
+use Rattle.flow_calls.specs.declared.reply.OpKind.TheVariants as opkinds
 use Rattle.history_text.specs.declared.kind.Kind.{Kind}
 use Rattle.history_text.specs.declared.kind.Kind.TheVariants as kinds
 use Rattle.history_text.specs.Forms.{form, filled}
@@ -20,6 +21,8 @@ good (kinds.Isolated true) = refl
 good (kinds.Isolated false) = refl
 good (kinds.Bad bads.Port) = refl
 good (kinds.Bad kind) = refl
+good (kinds.Enqueued opkinds.RuleCreate) = refl
+good (kinds.Enqueued kind) = refl
 good kind = refl
 
 made : (kind : Kind) (ns : List ℕ) → made_front kind_rows (form (kind_form kind)) ns ≡ Some (kind, ns)
@@ -29,6 +32,8 @@ made (kinds.Isolated true) ns = refl
 made (kinds.Isolated false) ns = refl
 made (kinds.Bad bads.Port) ns = refl
 made (kinds.Bad kind) ns = refl
+made (kinds.Enqueued opkinds.RuleCreate) ns = refl
+made (kinds.Enqueued kind) ns = refl
 made kind ns = refl
 
 pub kind-back : (kind : Kind) (ns rest : List ℕ) → Fills (form (kind_form kind)) ns → Ends (form (kind_form kind)) rest

@@ -4,6 +4,8 @@ pub mod KindLaws
 pub mod Parts
 pub mod Words
 pub mod RowLaws
+pub mod Outcomes
+pub mod PulledLaws
 pub mod ReplyLaws
 pub mod VerdictLaws
 pub mod EndingLaws

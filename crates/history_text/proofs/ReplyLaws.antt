@@ -1,6 +1,7 @@
 -- Replies with one text are one reply.
-use Rattle.std.proofs.Common.{◌≡◌, ◌≢◌, ℕ, ◌^◌, ◌<◌, true, false, List, [], ◌∷◌, ◌++◌, take, drop, get_or, codes, Option, Some, None, refl, sym, ap, ◌∙◌, subst, arith, rules, append_assoc, take-append-drop, lit≤, lit<}
+use Rattle.std.proofs.Common.{◌≡◌, ◌≢◌, ℕ, ◌^◌, ◌<◌, Bool, true, false, List, [], ◌∷◌, ◌++◌, length, count_by, take, drop, get_or, codes, Option, Some, None, refl, sym, ap, ◌∙◌, subst, arith, rules, append_assoc, take-append-drop, lit≤, lit<}
 use Rattle.std.proofs.lemmas.Option.{same_Some}
+use Rattle.std.proofs.lemmas.List.Sums.{count_by-le-length}
 use Rattle.std.proofs.NetLemmas.Options.{same_parts}
 use Rattle.std.proofs.NetLemmas.Numbers.{NoDigit}
 use Rattle.flow_rules.specs.declared.limits.Limits.{Limits}
@@ -10,6 +11,8 @@ use Rattle.flow_calls.specs.declared.call.BadKind.TheVariants as bads
 use Rattle.std.specs.List.{flat_map}
 use Rattle.flow_calls.specs.declared.rows.ListRow.{ListRow}
 use Rattle.history_text.specs.Rows.{row_text}
+use Rattle.history_text.specs.Pulled.{is_outcome, letters_text}
+use Rattle.flow_calls.specs.declared.reply.OpKind.TheVariants as opkinds
 use Rattle.flow_calls.specs.declared.reply.Totals.{Totals}
 use Rattle.flow_calls.specs.declared.reply.Reply.{Reply}
 use Rattle.flow_calls.specs.declared.reply.Reply.TheVariants as replies
@@ -27,6 +30,7 @@ use Rattle.history_text.specs.Totals.{totals_text}
 use Rattle.history_text.specs.Told.{PlaceIsTold, TotalsAreTold, RowsAreTold, ReplyIsTold}
 use Rattle.history_text.proofs.KindLaws.{kind-back}
 use Rattle.history_text.proofs.RowLaws.{rows-same}
+use Rattle.history_text.proofs.PulledLaws.{letters-same}
 use Rattle.history_text.proofs.Parts.{filled-same, listed, listed-same}
 
 -- behind a text of a reply that ends in a number stands no digit
@@ -43,6 +47,8 @@ ends limits (replies.Bad bads.Arguments) r = tt
 ends limits (replies.Bad bads.Port) r = tt
 ends limits (replies.Bad bads.NotStarted) r = tt
 ends limits (replies.Bad bads.AlreadyStarted) r = tt
+ends limits (replies.Enqueued opkinds.RuleCreate id) r = tt
+ends limits (replies.Enqueued kind id) r = tt
 ends limits reply r = tt
 
 fault-fills : (cause : Cause) (at : ℕ) → at < 2 ^ 64 → Fills (form (refusal_form cause)) (refusal_numbers (record { cause = cause; at = at }))
@@ -55,6 +61,9 @@ place-small : (place : FaultPlace) (at : ℕ) → PlaceIsTold place at → at < 
 place-small places.Nowhere at none = omega (arith, none)
 place-small places.Item at small = small
 place-small places.Action at small = small
+
+count-small : (ok : Bool) (outcomes : List Bool) → length outcomes < 2 ^ 64 → count_by (is_outcome ok) outcomes < 2 ^ 64
+count-small ok outcomes small = omega (arith, small, count_by-le-length (is_outcome ok) outcomes)
 
 fills : (limits : Limits) (r : Reply) → ReplyIsTold limits r → Fills (form (kind_form (spell r).kind)) (spell r).numbers
 fills limits (replies.Created id) told = (told, tt)
@@ -69,6 +78,12 @@ fills limits (replies.ActionsTemplateCreated id) told = (told, tt)
 fills limits (replies.ActionsTemplateDestroyed id) told = (told, tt)
 fills limits (replies.TableCreated id) told = (told, tt)
 fills limits (replies.TableDestroyed id) told = (told, tt)
+fills limits (replies.Configured queues size) told = (lit< tt, (told.0, (told.1, tt)))
+fills limits (replies.Enqueued opkinds.RuleCreate id) told = (told, tt)
+fills limits (replies.Enqueued kind id) told = (told, tt)
+fills limits (replies.Pushed queue) told = (told, tt)
+fills limits (replies.Pulled queue outcomes) told =
+    (told.0, (told.1, (count-small false outcomes told.1, (count-small true outcomes told.1, tt))))
 fills limits (replies.Listed rows) told = tt
 fills limits (replies.Isolated true) told = tt
 fills limits (replies.Isolated false) told = tt
@@ -111,6 +126,10 @@ unspelled kinds.ActionsTemplateCreated ns = Some (replies.ActionsTemplateCreated
 unspelled kinds.ActionsTemplateDestroyed ns = Some (replies.ActionsTemplateDestroyed (first ns))
 unspelled kinds.TableCreated ns = Some (replies.TableCreated (first ns))
 unspelled kinds.TableDestroyed ns = Some (replies.TableDestroyed (first ns))
+unspelled kinds.Configured ns = Some (replies.Configured (first (rest ns)) (first (rest (rest ns))))
+unspelled (kinds.Enqueued kind) ns = Some (replies.Enqueued kind (first ns))
+unspelled kinds.Pushed ns = Some (replies.Pushed (first ns))
+unspelled kinds.Pulled ns = None
 unspelled kinds.Started ns = Some replies.Started
 unspelled kinds.Stopped ns = None
 unspelled kinds.Bye ns = Some replies.Bye
@@ -120,6 +139,7 @@ unspelled (kinds.Refused cause) ns = Some (replies.Fault (record { cause = cause
 abbrev IsPlain : Kind → Type 0
 IsPlain kinds.Listed = ⊥
 IsPlain kinds.Stopped = ⊥
+IsPlain kinds.Pulled = ⊥
 IsPlain kind = Unit
 
 place-back : (place : FaultPlace) (at : ℕ) (own : List ℕ) → PlaceIsTold place at → place_in place (place_numbers place at ++ own) ≡ at
@@ -130,6 +150,7 @@ place-back places.Action at own small = refl
 unspelled-back : (limits : Limits) (r : Reply) → ReplyIsTold limits r → IsPlain (spell r).kind → unspelled (spell r).kind (spell r).numbers ≡ Some r
 unspelled-back limits (replies.Listed rows) told plain = absurd plain
 unspelled-back limits (replies.Stopped totals) told plain = absurd plain
+unspelled-back limits (replies.Pulled queue outcomes) told plain = absurd plain
 unspelled-back limits (replies.Fault fault) told plain =
     let told_cause = told_of fault.cause in
     ap (λ at. Some (replies.Fault (record { cause = fault.cause; at = at }))) (place-back told_cause.place fault.at (number_in told_cause.number) told)
@@ -138,6 +159,7 @@ unspelled-back limits r told plain = refl
 plain-behind : (limits : Limits) (r : Reply) → IsPlain (spell r).kind → behind_text limits r ≡ []
 plain-behind limits (replies.Listed rows) plain = absurd plain
 plain-behind limits (replies.Stopped totals) plain = absurd plain
+plain-behind limits (replies.Pulled queue outcomes) plain = absurd plain
 plain-behind limits r plain = refl
 
 -- totals with one text
@@ -182,6 +204,18 @@ listed-rows-same limits rows (replies.Listed others) r s told told' stop stop' k
     (ap replies.Listed same, rests)
 listed-rows-same limits rows other r s told told' stop stop' kind e = absurd (subst IsListed kind tt)
 
+abbrev IsPulled : Kind → Type 0
+IsPulled kinds.Pulled = Unit
+IsPulled kind = ⊥
+
+pulled-same : (limits : Limits) (queue : ℕ) (outcomes : List Bool) (other : Reply) (r s : List ℕ) → kinds.Pulled ≡ (spell other).kind
+    → (spell (replies.Pulled queue outcomes)).numbers ≡ (spell other).numbers → letters_text outcomes ++ 10 ∷ r ≡ behind_text limits other ++ 10 ∷ s
+    → (replies.Pulled queue outcomes ≡ other) × (r ≡ s)
+pulled-same limits queue outcomes (replies.Pulled queue' outcomes') r s kind numbers e =
+    let (same, rests) = letters-same outcomes outcomes' (10 ∷ r) (10 ∷ s) e in
+    (ap (λ q. replies.Pulled q outcomes) (ap first numbers) ∙ ap (replies.Pulled queue') same, ap (drop 1) rests)
+pulled-same limits queue outcomes other r s kind numbers e = absurd (subst IsPulled kind tt)
+
 plain-same : (limits : Limits) (a b : Reply) (r s : List ℕ) → ReplyIsTold limits a → ReplyIsTold limits b → IsPlain (spell a).kind
     → (spell a).kind ≡ (spell b).kind → (spell a).numbers ≡ (spell b).numbers → behind_text limits a ++ r ≡ behind_text limits b ++ s → (a ≡ b) × (r ≡ s)
 plain-same limits a b r s told told' plain kind numbers e =
@@ -194,6 +228,7 @@ behind-same : (limits : Limits) (a b : Reply) (r s : List ℕ) → ReplyIsTold l
     → (spell a).kind ≡ (spell b).kind → (spell a).numbers ≡ (spell b).numbers → behind_text limits a ++ 10 ∷ r ≡ behind_text limits b ++ 10 ∷ s → (a ≡ b) × (r ≡ s)
 behind-same limits (replies.Listed rows) b r s told told' stop stop' kind numbers e = listed-rows-same limits rows b r s told told' stop stop' kind e
 behind-same limits (replies.Stopped totals) b r s told told' stop stop' kind numbers e = stopped-same limits totals b r s told told' kind e
+behind-same limits (replies.Pulled queue outcomes) b r s told told' stop stop' kind numbers e = pulled-same limits queue outcomes b r s kind numbers e
 behind-same limits a b r s told told' stop stop' kind numbers e =
     let (same, rests) = plain-same limits a b (10 ∷ r) (10 ∷ s) told told' tt kind numbers e in
     (same, ap (drop 1) rests)

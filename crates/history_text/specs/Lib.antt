@@ -3,6 +3,7 @@ pub mod Reading
 pub mod Callers
 pub mod Totals
 pub mod Causes
+pub mod Pulled
 pub mod Kinds
 pub mod KindRows
 pub mod Rows

@@ -1,5 +1,5 @@
 -- What a text can tell: numbers of at most 64 bits, and nothing where it has no word for it.
-use Rattle.std.specs.Prelude.{◌≡◌, ℕ, ◌<◌, ◌^◌, List, [], ◌∷◌, take, drop, Option, None, Some}
+use Rattle.std.specs.Prelude.{◌≡◌, ℕ, ◌<◌, ◌^◌, List, [], ◌∷◌, length, take, drop, Option, None, Some}
 use Rattle.std.specs.List.{repeat}
 use Rattle.flow_actions.specs.declared.verdict.Fate.{Fate}
 use Rattle.flow_actions.specs.declared.verdict.Fate.TheVariants as fates
@@ -58,6 +58,10 @@ ReplyIsTold limits (replies.ActionsTemplateCreated id) = id < 2 ^ 64
 ReplyIsTold limits (replies.ActionsTemplateDestroyed id) = id < 2 ^ 64
 ReplyIsTold limits (replies.TableCreated id) = id < 2 ^ 64
 ReplyIsTold limits (replies.TableDestroyed id) = id < 2 ^ 64
+ReplyIsTold limits (replies.Configured queues size) = (queues < 2 ^ 64) × (size < 2 ^ 64)
+ReplyIsTold limits (replies.Enqueued kind id) = id < 2 ^ 64
+ReplyIsTold limits (replies.Pushed queue) = queue < 2 ^ 64
+ReplyIsTold limits (replies.Pulled queue outcomes) = (queue < 2 ^ 64) × (length outcomes < 2 ^ 64)
 ReplyIsTold limits (replies.Stopped totals) = TotalsAreTold limits totals
 ReplyIsTold limits (replies.Fault fault) = PlaceIsTold (told_of fault.cause).place fault.at
 ReplyIsTold limits reply = Unit

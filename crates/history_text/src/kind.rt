@@ -1,11 +1,12 @@
 //! The texts of replies, and which of them a reply has. The texts stand here and nowhere else.
 ghost use Rattle.std.specs.Prelude.{◌≡◌, map};
 ghost use Rattle.std.specs.List.{concat};
-ghost use Rattle.history_text.specs.Kinds.{kind_form, plain, numbered, counted, spell};
+ghost use Rattle.history_text.specs.Kinds.{kind_form, enqueued_form, plain, numbered, counted, configured, spell};
 
 use crate::cause::{Numbers, refusal_form, refusal_numbers};
-use flow_calls::{BadKind, Reply};
+use crate::pulled::pulled;
 use arrayvec::ArrayVec;
+use flow_calls::{BadKind, OpKind, Reply};
 use flow_rules::Cause;
 
 /// A reply without its numbers and lists.
@@ -27,6 +28,10 @@ pub(crate) enum Kind {
     ActionsTemplateDestroyed,
     TableCreated,
     TableDestroyed,
+    Configured,
+    Enqueued(OpKind),
+    Pushed,
+    Pulled,
     Started,
     Stopped,
     Bye,
@@ -40,6 +45,9 @@ pub(crate) struct Spelled {
     pub(crate) kind: Kind,
     pub(crate) numbers: Numbers,
 }
+
+/// The only port of a session.
+const PORT: u128 = 0;
 
 /// As many parts as a text may have.
 const MAX_PARTS: usize = 5;
@@ -77,6 +85,10 @@ pub(crate) fn kind_form(kind: Kind) -> Form
         Kind::ActionsTemplateDestroyed => whole(b"Actions template #0 destroyed"),
         Kind::TableCreated => whole(b"Template table #0 created"),
         Kind::TableDestroyed => whole(b"Template table #0 destroyed"),
+        Kind::Configured => whole(b"Port 0 configured: 0 queues of 0 entries"),
+        Kind::Enqueued(kind) => enqueued_form(kind),
+        Kind::Pushed => whole(b"Queue #0 operations pushed"),
+        Kind::Pulled => whole(b"Queue #0 pulled 0 operations (0 failed, 0 succeeded) ["),
         Kind::Started => whole(b"Packet forwarding started"),
         Kind::Stopped => whole(b"Packet forwarding stopped: "),
         Kind::Bye => whole(b"Bye"),
@@ -85,6 +97,19 @@ pub(crate) fn kind_form(kind: Kind) -> Form
         Kind::Bad(BadKind::NotStarted) => whole(b"Packet forwarding not started"),
         Kind::Bad(BadKind::AlreadyStarted) => whole(b"Packet forwarding already started"),
         Kind::Refused(cause) => refusal_form(cause),
+    }
+}
+
+/// The text of an operation that a flow queue holds.
+fn enqueued_form(kind: OpKind) -> Form
+    ensures { concat (map (λ part. part.now) result) ≡ enqueued_form kind }
+{
+    match kind {
+        OpKind::RuleCreate => whole(b"Flow rule #0 creation enqueued"),
+        OpKind::RuleDestroy => whole(b"Flow rule #0 destruction enqueued"),
+        OpKind::IndirectCreate => whole(b"Indirect action #0 creation enqueued"),
+        OpKind::IndirectUpdate => whole(b"Indirect action #0 update enqueued"),
+        OpKind::IndirectDestroy => whole(b"Indirect action #0 destruction enqueued"),
     }
 }
 
@@ -120,6 +145,20 @@ fn counted(hits: u64, bytes: u128) -> Spelled
     }
 }
 
+/// The text of the flow queues that are there now. The port's number is one of its numbers.
+fn configured(queues: u32, size: u32) -> Spelled
+    ensures { record { kind = result.kind; numbers = result.numbers.items } ≡ configured queues size }
+{
+    let mut numbers = ArrayVec::new();
+    numbers.push(PORT);
+    numbers.push(queues as u128);
+    numbers.push(size as u128);
+    Spelled {
+        kind: Kind::Configured,
+        numbers,
+    }
+}
+
 pub(crate) fn spell(reply: &Reply) -> Spelled
     ensures { record { kind = result.kind; numbers = result.numbers.items } ≡ spell reply.now }
 {
@@ -146,6 +185,10 @@ pub(crate) fn spell(reply: &Reply) -> Spelled
         ),
         Reply::TableCreated(id) => numbered(Kind::TableCreated, *id as u128),
         Reply::TableDestroyed(id) => numbered(Kind::TableDestroyed, *id as u128),
+        Reply::Configured(queues, size) => configured(*queues, *size),
+        Reply::Enqueued(kind, id) => numbered(Kind::Enqueued(*kind), *id as u128),
+        Reply::Pushed(queue) => numbered(Kind::Pushed, *queue as u128),
+        Reply::Pulled(queue, outcomes) => pulled(*queue, outcomes.get()),
         Reply::Started => plain(Kind::Started),
         Reply::Stopped(_) => plain(Kind::Stopped),
         Reply::Bye => plain(Kind::Bye),

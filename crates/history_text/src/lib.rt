@@ -24,6 +24,7 @@
 //! - `kind`: the table of the texts of replies, a line for each, and which numbers a reply has (`specs/Kinds.antt`),
 //! - `cause`: the table of error types, their causes and texts, and the form of a refusal (`specs/Causes.antt`),
 //! - `row`: a list of rules, a line each (`specs/Rows.antt`),
+//! - `pulled`: the results of a flow queue, a letter each (`specs/Pulled.antt`),
 //! - `totals`, `reply`, `verdict` (`specs/Totals.antt`, `specs/Replies.antt`, `specs/Verdicts.antt`),
 //! - `ending`: the line of a capture that stopped early (`specs/Endings.antt`),
 //! - `transcript`: an entry's line, and the whole (`specs/Text.antt`).
@@ -42,6 +43,7 @@ mod ending;
 mod form;
 mod kind;
 mod number;
+mod pulled;
 mod read_back;
 mod reply;
 mod row;

@@ -6,6 +6,7 @@ ghost use Rattle.history_text.specs.Replies.{behind_text, reply_text};
 
 use crate::form::print_form;
 use crate::kind::{kind_form, spell};
+use crate::pulled::print_letters;
 use crate::row::print_rows;
 use crate::totals::print_totals;
 use flow_calls::Reply;
@@ -21,6 +22,7 @@ fn print_behind<K: Sink>(sink: &mut K, page: &mut Page, limits: Limits, reply: &
     match reply {
         Reply::Listed(rows) => print_rows(sink, page, rows),
         Reply::Stopped(totals) => print_totals(sink, page, limits, totals.get()),
+        Reply::Pulled(_, outcomes) => print_letters(sink, page, outcomes.get()),
         _ => {}
     }
 }

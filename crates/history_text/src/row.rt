@@ -6,8 +6,8 @@ ghost use Rattle.io_edges.specs.Prints.{Prints};
 ghost use Rattle.history_text.specs.Rows.{item_text, action_text, row_text};
 
 use crate::form::print_form;
-use flow_calls::{ListRow, RuleList};
 use flow_actions::ActionKind;
+use flow_calls::{ListRow, RuleList};
 use io_edges::{Page, Sink, print};
 use packet_headers::ItemKind;
 
