@@ -17,7 +17,7 @@ pub enum Part {
         count: Option<u32>,
         /// The shell's calls in the phase.
         shell: CallList,
-        /// The calls of the agents of the flow queues 0 to 7. No line is an agent's so far.
+        /// The calls of the agents of the flow queues 0 to 7 in the phase.
         agents: [CallList; 8],
         /// The call that closes it: the script's own, or one behind its last line.
         closing: Call,
