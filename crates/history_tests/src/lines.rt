@@ -1,13 +1,16 @@
 //! The lines of a transcript: replies, refusals and a verdict with their texts, and how a capture ended.
 use adapter::Adapter;
-use flow_calls::{At, BadKind, Call, Caller, EntryView, Op, Parcel, Reply};
 use arrayvec::ArrayVec;
 use capture_files::CaptureKind;
 use flow_actions::{Fate, Verdict};
+use flow_calls::{At, BadKind, Call, Caller, EntryView, Op, OpKind, Parcel, Reply};
 use flow_rules::{Cause, Fault, Limits};
 use history_text::{Ending, print_entry, print_history};
 use io_edges::{MemSink, Page, finish};
+use op_queues::OpQueue;
 use packet_headers::parse;
+use shared_value::Shared;
+use std::alloc::{AllocError, Global};
 use std::process::Abort;
 use std::test::Fail;
 
@@ -198,6 +201,90 @@ fn templates_and_tables_have_their_texts(rt: HostRuntime) -> Result<(), Fail> {
         ),
     ];
     expect_replies(&rt, &rows)
+}
+
+#[test]
+fn operations_of_flow_queues_have_their_texts(rt: HostRuntime) -> Result<(), Fail> {
+    let rows: [Row<'_>; 7] = [
+        (
+            0,
+            Reply::Configured(8, 1024),
+            b"shell 12.1: Port 0 configured: 8 queues of 1024 entries\n",
+        ),
+        (
+            1,
+            Reply::Enqueued(OpKind::RuleCreate, 7),
+            b"agent0 12.1: Flow rule #7 creation enqueued\n",
+        ),
+        (
+            2,
+            Reply::Enqueued(OpKind::RuleDestroy, 4294967294),
+            b"agent1 12.1: Flow rule #4294967294 destruction enqueued\n",
+        ),
+        (
+            8,
+            Reply::Enqueued(OpKind::IndirectCreate, 65535),
+            b"agent7 12.1: Indirect action #65535 creation enqueued\n",
+        ),
+        (
+            0,
+            Reply::Enqueued(OpKind::IndirectUpdate, 0),
+            b"shell 12.1: Indirect action #0 update enqueued\n",
+        ),
+        (
+            0,
+            Reply::Enqueued(OpKind::IndirectDestroy, 3),
+            b"shell 12.1: Indirect action #3 destruction enqueued\n",
+        ),
+        (
+            4,
+            Reply::Pushed(3),
+            b"agent3 12.1: Queue #3 operations pushed\n",
+        ),
+    ];
+    expect_replies(&rt, &rows)
+}
+
+/// How operations ended, and the line of a pull of their results.
+static PULLS: [(&[bool], &[u8]); 4] = [
+    (
+        &[],
+        b"agent3 12.1: Queue #3 pulled 0 operations (0 failed, 0 succeeded) []\n",
+    ),
+    (
+        &[true],
+        b"agent3 12.1: Queue #3 pulled 1 operations (0 failed, 1 succeeded) [S]\n",
+    ),
+    (
+        &[true, false],
+        b"agent3 12.1: Queue #3 pulled 2 operations (1 failed, 1 succeeded) [SF]\n",
+    ),
+    (
+        &[false, true, true, false, false],
+        b"agent3 12.1: Queue #3 pulled 5 operations (3 failed, 2 succeeded) [FSSFF]\n",
+    ),
+];
+
+/// The reply to a pull of the results of operations that ended so.
+fn pulled(alloc: Global, ended: &[bool]) -> Result<Reply, AllocError> {
+    let mut queue: OpQueue<u8> = OpQueue::new(alloc, 8)?;
+    for ok in ended {
+        let _held = queue.hold(0);
+        if queue.pop_held().is_some() {
+            queue.finish(*ok);
+        }
+    }
+    let outcomes = Shared::new(alloc, queue.pull(8))?;
+    Ok(Reply::Pulled(3, outcomes))
+}
+
+#[test]
+fn a_pull_has_a_letter_for_each_result(rt: HostRuntime) -> Result<(), Fail> {
+    for (ended, line) in &PULLS {
+        let reply = pulled(rt.alloc(), ended)?;
+        expect_reply(&rt, 4, &reply, line)?;
+    }
+    Ok(())
 }
 
 /// A cause with the place 3, and what stands behind `Caught error type `.
