@@ -20,7 +20,8 @@ use Rattle.flow_grammar.specs.Words.{behind, at_end}
 use Rattle.flow_grammar.specs.Destroys.{destroys_of}
 use Rattle.flow_grammar.specs.RuleLists.{rule_lists_of}
 use Rattle.flow_grammar.specs.IndirectActions.{indirect_asked}
-use Rattle.flow_grammar.specs.Templates.{patterns_asked, actions_asked, tables_asked}
+use Rattle.flow_grammar.specs.declared.templates.Made.TheVariants as mades
+use Rattle.flow_grammar.specs.Templates.{made_asked}
 use Rattle.flow_grammar.specs.Queues.{configure_of, queue_asked, push_of, pull_of}
 
 -- `ATTRS pattern ITEMS actions ACTIONS`, and no more
@@ -71,9 +72,9 @@ asked verb.List words = at_end words (ops.List ∷ [])
 asked verb.Isolate words = option_map (λ op. op ∷ []) (switch_of words)
 asked verb.Query words = option_map (λ op. op ∷ []) (query_of words)
 asked verb.IndirectAction words = indirect_asked words
-asked verb.PatternTemplate words = patterns_asked words
-asked verb.ActionsTemplate words = actions_asked words
-asked verb.TemplateTable words = tables_asked words
+asked verb.PatternTemplate words = made_asked mades.Pattern words
+asked verb.ActionsTemplate words = made_asked mades.Actions words
+asked verb.TemplateTable words = made_asked mades.Table words
 asked verb.Configure words = option_map (λ op. op ∷ []) (configure_of words)
 asked verb.Queue words = queue_asked words
 asked verb.Push words = option_map (λ op. op ∷ []) (push_of words)

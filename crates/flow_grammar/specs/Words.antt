@@ -49,6 +49,10 @@ first_meaning table (word ∷ words) = option_map (λ meaning. (meaning, words))
 abbrev pub number_behind : List ℕ → ℕ → List (List ℕ) → Option (ℕ × List (List ℕ))
 number_behind name bits words = option_and_then (first_number bits) (behind name words)
 
+-- what was read, where no word is left behind it
+abbrev pub last_of : {X : Type 0} → Option (X × List (List ℕ)) → Option X
+last_of read = option_and_then (λ read. at_end read.1 read.0) read
+
 -- an id of 16 bits, where words begin with its name, and the words behind it
 abbrev pub given_id : List ℕ → List (List ℕ) → Option (Option ℕ × List (List ℕ))
 given_id name [] = Some (None, [])

@@ -2,7 +2,6 @@
 ghost use Rattle.std.specs.Prelude.{◌≡◌, IfOk, map, option_map};
 ghost use Rattle.flow_calls.specs.declared.call.Op.TheVariants as ops;
 ghost use Rattle.flow_grammar.specs.Queues as spec;
-ghost use Rattle.flow_grammar.specs.Words.{first_meaning};
 
 use crate::destroys::{Object, read_destroys};
 use crate::indirect_actions::{IndirectVerb, created_words, indirect_verb, read_new_action};
@@ -57,20 +56,12 @@ pub(crate) fn read_pull(words: &[&[u8]]) -> Option<Op>
     if_last(rest, Op::Pull(queue))
 }
 
-/// What the first word asks of a flow queue, and the words behind it.
-fn queue_verb<'w, 'a>(words: &'w [&'a [u8]]) -> Option<(QueueVerb, &'w [&'a [u8]])>
-    ensures { option_map (λ read. (read.0, map (λ word. word.now) read.1.now)) result
-        ≡ first_meaning spec.verbs (map (λ word. word.now) words.entry.now) }
-{
-    first_meaning(&VERBS, words)
-}
-
 /// The ops that the words behind `flow queue PORT` ask for.
 #[tactic(auto, unfolding(crate::specs::Queues::queue_asked))]
 pub(crate) fn read_queue(alloc: Global, words: &[&[u8]]) -> Result<Option<OpList>, AllocError>
     ensures { IfOk result (λ ops. ops ≡ spec.queue_asked (map (λ word. word.now) words.now)) }
 {
-    let Some((verb, rest)) = queue_verb(words) else {
+    let Some((verb, rest)) = first_meaning(&VERBS, words) else {
         return Ok(None);
     };
     let Some((queue, rest)) = number_16(rest) else {

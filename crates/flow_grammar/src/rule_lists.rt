@@ -1,9 +1,8 @@
 //! The pattern and the actions of a rule, as a line ends with them.
 ghost use Rattle.std.specs.Prelude.{◌≡◌, map};
-ghost use Rattle.flow_grammar.specs.RuleLists.{last_actions_of, rule_lists_of};
+ghost use Rattle.flow_grammar.specs.RuleLists.{rule_lists_of};
 
-use crate::words::{behind, if_last};
-use flow_actions::Actions;
+use crate::words::{behind, last};
 use flow_calls::RuleLists;
 use rule_words::{read_actions, read_items};
 
@@ -14,15 +13,6 @@ pub(crate) fn read_rule_lists(words: &[&[u8]]) -> Option<RuleLists>
 {
     let (pattern, rest) = read_items(words)?;
     let rest = behind(b"actions", rest)?;
-    let actions = read_last_actions(rest)?;
+    let actions = last(read_actions(rest))?;
     Some(RuleLists { pattern, actions })
-}
-
-/// The actions of words that end with them.
-#[tactic(auto, unfolding(crate::specs::RuleLists::last_actions_of))]
-fn read_last_actions(words: &[&[u8]]) -> Option<Actions>
-    ensures { result ≡ last_actions_of (map (λ word. word.now) words.now) }
-{
-    let (actions, rest) = read_actions(words)?;
-    if_last(rest, actions)
 }

@@ -3,26 +3,48 @@ ghost use Rattle.std.specs.Prelude.{◌≡◌, ◌<◌, ◌≤◌, ◌^◌, IfOk
 ghost use Rattle.flow_calls.specs.declared.call.Op.TheVariants as ops;
 ghost use Rattle.flow_grammar.specs.Templates as spec;
 ghost use Rattle.rule_words.specs.Ids.{AreBelow, ids_of};
-ghost use Rattle.rule_words.specs.Vocabulary.{meaning_of};
 
 use crate::destroys::{Object, read_destroys};
 use crate::numbers::{given_id, number_32};
 use crate::op_list::{OpList, one_op};
-use crate::words::behind;
+use crate::words::{behind, first_meaning, last};
 use arrayvec::ArrayVec;
 use flow_calls::{ActionLists, Op, TableTemplates};
 use flow_rules::Attr;
 use pattern_items::Pattern;
 use rule_binding::Masks;
 use rule_words::{
-    IdList, meaning, read_actions, read_attributes, read_directions, read_ids, read_items,
-    read_masks,
+    IdList, read_actions, read_attributes, read_directions, read_ids, read_items, read_masks,
 };
 use shared_value::Shared;
 use std::alloc::{AllocError, Global};
 
 /// The most templates of a kind that a table names.
 const MAX_TEMPLATES: usize = 8;
+
+/// What a line makes, or destroys.
+#[derive(Clone, Copy)]
+pub(crate) enum Made {
+    /// A pattern template.
+    Pattern,
+    /// An actions template.
+    Actions,
+    /// A template table.
+    Table,
+}
+
+impl Made {
+    /// What a line of this kind destroys.
+    fn object(self) -> Object
+        ensures { result ≡ spec.object_of self }
+    {
+        match self {
+            Made::Pattern => Object::PatternTemplate,
+            Made::Actions => Object::ActionsTemplate,
+            Made::Table => Object::Table,
+        }
+    }
+}
 
 /// What is asked of templates, and of tables.
 #[derive(Clone, Copy)]
@@ -36,97 +58,31 @@ static VERBS: [(&str, TemplateVerb); 2] = [
     ("destroy", TemplateVerb::Destroy),
 ];
 
-/// The verb that a word is.
-fn template_verb_of(word: &[u8]) -> Option<TemplateVerb>
-    ensures { result ≡ meaning_of spec.verbs word.now }
-{
-    meaning(&VERBS, word)
-}
-
-/// The ops that the words behind `flow pattern_template PORT` ask for.
-pub(crate) fn read_pattern_template(
+/// The ops that the words behind `flow pattern_template PORT`, and those of actions templates and tables, ask for.
+pub(crate) fn read_made(
     alloc: Global,
+    made: Made,
     words: &[&[u8]],
 ) -> Result<Option<OpList>, AllocError>
-    ensures { IfOk result (λ ops. ops ≡ spec.patterns_asked (map (λ word. word.now) words.now)) }
+    ensures { IfOk result (λ ops. ops ≡ spec.made_asked made (map (λ word. word.now) words.now)) }
 {
-    let Some((word, rest)) = words.split_first() else {
+    let Some((verb, rest)) = first_meaning(&VERBS, words) else {
         return Ok(None);
     };
-    let Some(verb) = template_verb_of(word) else {
-        return Ok(None);
-    };
-    on_patterns(alloc, verb, rest)
-}
-
-fn on_patterns(
-    alloc: Global,
-    verb: TemplateVerb,
-    words: &[&[u8]],
-) -> Result<Option<OpList>, AllocError>
-    ensures { IfOk result (λ ops. ops ≡ spec.on_patterns verb (map (λ word. word.now) words.now)) }
-{
     match verb {
-        TemplateVerb::Create => one_op(alloc, read_pattern(alloc, words)?),
-        TemplateVerb::Destroy => read_destroys(alloc, Object::PatternTemplate, words),
+        TemplateVerb::Create => one_op(alloc, read_created(alloc, made, rest)?),
+        TemplateVerb::Destroy => read_destroys(alloc, made.object(), rest),
     }
 }
 
-/// The ops that the words behind `flow actions_template PORT` ask for.
-pub(crate) fn read_actions_template(
-    alloc: Global,
-    words: &[&[u8]],
-) -> Result<Option<OpList>, AllocError>
-    ensures { IfOk result (λ ops. ops ≡ spec.actions_asked (map (λ word. word.now) words.now)) }
+/// What a line makes.
+fn read_created(alloc: Global, made: Made, words: &[&[u8]]) -> Result<Option<Op>, AllocError>
+    ensures { IfOk result (λ op. op ≡ spec.created_of made (map (λ word. word.now) words.now)) }
 {
-    let Some((word, rest)) = words.split_first() else {
-        return Ok(None);
-    };
-    let Some(verb) = template_verb_of(word) else {
-        return Ok(None);
-    };
-    on_actions(alloc, verb, rest)
-}
-
-fn on_actions(
-    alloc: Global,
-    verb: TemplateVerb,
-    words: &[&[u8]],
-) -> Result<Option<OpList>, AllocError>
-    ensures { IfOk result (λ ops. ops ≡ spec.on_actions verb (map (λ word. word.now) words.now)) }
-{
-    match verb {
-        TemplateVerb::Create => one_op(alloc, read_lists(alloc, words)?),
-        TemplateVerb::Destroy => read_destroys(alloc, Object::ActionsTemplate, words),
-    }
-}
-
-/// The ops that the words behind `flow template_table PORT` ask for.
-pub(crate) fn read_template_table(
-    alloc: Global,
-    words: &[&[u8]],
-) -> Result<Option<OpList>, AllocError>
-    ensures { IfOk result (λ ops. ops ≡ spec.tables_asked (map (λ word. word.now) words.now)) }
-{
-    let Some((word, rest)) = words.split_first() else {
-        return Ok(None);
-    };
-    let Some(verb) = template_verb_of(word) else {
-        return Ok(None);
-    };
-    on_tables(alloc, verb, rest)
-}
-
-fn on_tables(
-    alloc: Global,
-    verb: TemplateVerb,
-    words: &[&[u8]],
-) -> Result<Option<OpList>, AllocError>
-    ensures { IfOk result (λ ops. ops ≡ spec.on_tables verb (map (λ word. word.now) words.now)) }
-{
-    match verb {
-        TemplateVerb::Create => one_op(alloc, read_table(alloc, words)?),
-        TemplateVerb::Destroy => read_destroys(alloc, Object::Table, words),
+    match made {
+        Made::Pattern => read_pattern(alloc, words),
+        Made::Actions => read_lists(alloc, words),
+        Made::Table => read_table(alloc, words),
     }
 }
 
@@ -147,20 +103,8 @@ fn pattern_words(words: &[&[u8]]) -> Option<(Option<u16>, Attr, Pattern)>
 {
     let (id, rest) = given_id(b"pattern_template_id", words)?;
     let (attr, rest) = read_directions(b"template", rest)?;
-    let pattern = read_last_items(rest)?;
+    let pattern = last(read_items(rest))?;
     Some((id, attr, pattern))
-}
-
-/// The items of words that end with them.
-#[tactic(auto, unfolding(crate::specs::Templates::last_items_of))]
-fn read_last_items(words: &[&[u8]]) -> Option<Pattern>
-    ensures { result ≡ spec.last_items_of (map (λ word. word.now) words.now) }
-{
-    let (pattern, rest) = read_items(words)?;
-    if !rest.is_empty() {
-        return None;
-    }
-    Some(pattern)
 }
 
 /// `[actions_template_id ID] DIRS template ACTIONS mask ACTIONS`.
@@ -192,20 +136,8 @@ fn both_lists(words: &[&[u8]]) -> Option<ActionLists>
 {
     let (actions, rest) = read_actions(words)?;
     let rest = behind(b"mask", rest)?;
-    let masks = read_last_masks(rest)?;
+    let masks = last(read_masks(rest))?;
     Some(ActionLists { actions, masks })
-}
-
-/// The mask list of words that end with it.
-#[tactic(auto, unfolding(crate::specs::Templates::last_masks_of))]
-fn read_last_masks(words: &[&[u8]]) -> Option<Masks>
-    ensures { result ≡ spec.last_masks_of (map (λ word. word.now) words.now) }
-{
-    let (masks, rest) = read_masks(words)?;
-    if !rest.is_empty() {
-        return None;
-    }
-    Some(masks)
 }
 
 /// `[table_id ID] ATTRS rules_number NUMBER pattern_template ID {..} actions_template ID {..}`.
@@ -241,20 +173,8 @@ fn both_kinds(words: &[&[u8]]) -> Option<TableTemplates>
     ensures { result ≡ spec.templates_of (map (λ word. word.now) words.now) }
 {
     let (patterns, rest) = template_ids(b"pattern_template", words)?;
-    let actions = last_template_ids(b"actions_template", rest)?;
+    let actions = last(template_ids(b"actions_template", rest))?;
     Some(TableTemplates { patterns, actions })
-}
-
-/// The ids of words that end with them.
-#[tactic(auto, unfolding(crate::specs::Templates::last_ids_of))]
-fn last_template_ids(name: &[u8], words: &[&[u8]]) -> Option<ArrayVec<u16, MAX_TEMPLATES>>
-    ensures { option_map (λ ids. ids.items) result ≡ spec.last_ids_of name.now (map (λ word. word.now) words.now) }
-{
-    let (ids, rest) = template_ids(name, words)?;
-    if !rest.is_empty() {
-        return None;
-    }
-    Some(ids)
 }
 
 /// 1 to 8 ids of templates, each behind this word, and the words behind them.

@@ -8,7 +8,7 @@ use crate::indirect_actions::read_indirect;
 use crate::op_list::{OpList, one_op};
 use crate::queues::{read_configure, read_pull, read_push, read_queue};
 use crate::rule_lists::read_rule_lists;
-use crate::templates::{read_actions_template, read_pattern_template, read_template_table};
+use crate::templates::{Made, read_made};
 use crate::words::{behind, if_last};
 use flow_calls::{Op, RuleLists};
 use flow_rules::RuleSpec;
@@ -90,9 +90,9 @@ pub(crate) fn read_ops(
         Verb::Isolate => one_op(alloc, read_switch(words)),
         Verb::Query => one_op(alloc, read_query(words)),
         Verb::IndirectAction => read_indirect(alloc, words),
-        Verb::PatternTemplate => read_pattern_template(alloc, words),
-        Verb::ActionsTemplate => read_actions_template(alloc, words),
-        Verb::TemplateTable => read_template_table(alloc, words),
+        Verb::PatternTemplate => read_made(alloc, Made::Pattern, words),
+        Verb::ActionsTemplate => read_made(alloc, Made::Actions, words),
+        Verb::TemplateTable => read_made(alloc, Made::Table, words),
         Verb::Configure => one_op(alloc, read_configure(words)),
         Verb::Queue => read_queue(alloc, words),
         Verb::Push => one_op(alloc, read_push(words)),

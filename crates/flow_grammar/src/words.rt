@@ -70,6 +70,14 @@ pub(crate) fn first_meaning<'w, 'a, T: Copy>(
     Some((meaning, rest))
 }
 
+/// What was read, where no word is left behind it.
+pub(crate) fn last<T: Drop>(read: Option<(T, &[&[u8]])>) -> Option<T>
+    ensures { result ≡ spec.last_of (option_map (λ read. (read.0, map (λ word. word.now) read.1.now)) read.entry) }
+{
+    let (value, rest) = read?;
+    if_last(rest, value)
+}
+
 /// A value, where no word is left.
 pub(crate) fn if_last<T: Drop>(words: &[&[u8]], value: T) -> Option<T>
     ensures { result ≡ spec.at_end (map (λ word. word.now) words.now) value }
