@@ -13,12 +13,14 @@ use Rattle.adapter.specs.declared.kept.tallies.Tally.{Tally}
 use Rattle.adapter.specs.declared.spare.Spare.{Spare}
 use Rattle.adapter.specs.History.{IsFrame}
 use Rattle.adapter.specs.KeptHistory.{KeptHistory, IsReady}
-use Rattle.adapter.specs.Sound.{Sound, AreTold}
+use Rattle.adapter.specs.Sound.{Sound}
+use Rattle.port_state.specs.Changes.{AreTold}
 use Rattle.port_state.specs.Standing.{Standing, Counts}
 use Rattle.port_state.specs.State.{State, flows_of}
 use Rattle.adapter.specs.Tallies.{Tallies}
-use Rattle.adapter.proofs.ChangesTold.{AreTold-passed}
-use Rattle.adapter.proofs.SoundGrowth.{Sound-passed, IsBelow-verdict, state_of-push}
+use Rattle.port_state.proofs.ChangesTold.{AreTold-passed}
+use Rattle.port_state.proofs.StateKept.{state_of-push}
+use Rattle.adapter.proofs.SoundGrowth.{Sound-passed, IsBelow-verdict}
 
 -- a frame's entry leaves the verdicts of others
 IsFrame-push : (limits : Limits) (h : List Entry) (e x : Entry) → IsFrame limits h e → IsFrame limits h x → IsFrame limits (h ++ e ∷ []) x

@@ -16,10 +16,10 @@ unfolding count_of
 count_of-nil limits c = refl
 
 pub count_of-push : (limits : Limits) (h : List Entry) (e : Entry) (c : Counter)
-    → count_of limits (h ++ e ∷ []) c ≡ count_behind (state_of limits h) (state_behind limits (state_of limits h) e) c (count_of limits h c) e
+    → count_of limits (h ++ e ∷ []) c ≡ count_behind limits (state_of limits h) c (count_of limits h c) e
 unfolding count_of state_of
 count_of-push limits h e c =
     let start : Counting = record { state = opening limits; count = zero_count } in
     let before = fold (counting_behind limits c) start h in
     ap (λ (at : Counting). at.count) (fold-append (counting_behind limits c) start h (e ∷ []))
-    ∙ ap (λ s. count_behind s (state_behind limits s e) c before.count e) (state-counting limits c start h)
+    ∙ ap (λ s. count_behind limits s c before.count e) (state-counting limits c start h)

@@ -7,7 +7,7 @@ use Rattle.flow_actions.specs.declared.verdict.Verdict.{Verdict}
 use Rattle.flow_actions.specs.declared.verdict.Fate.{Fate}
 use Rattle.flow_actions.specs.declared.verdict.Fate.TheVariants as fates
 use Rattle.flow_rules.specs.declared.limits.Limits.{Limits}
-use Rattle.flow_rules.specs.Walk.{verdict_of, counters_of}
+use Rattle.flow_rules.specs.Walk.{Flows, verdict_of, counters_of}
 use Rattle.flow_calls.specs.declared.caller.Caller.{Caller}
 use Rattle.flow_calls.specs.declared.call.Call.{Call}
 use Rattle.flow_calls.specs.declared.call.Op.{Op}
@@ -23,7 +23,10 @@ use Rattle.flow_rules.specs.declared.counter.Count.{Count}
 use Rattle.flow_rules.specs.Naming.{rule_at, namings_at}
 use Rattle.flow_rules.specs.Shared.{shared_at}
 use Rattle.flow_rules.proofs.Namings.{named-by_path}
-use Rattle.port_state.specs.Counters.{zero_count, counted_more, is_counter, is_there, while_there, count_of}
+use Rattle.port_state.specs.Changes.{changes_by}
+use Rattle.port_state.specs.Counters.{zero_count, counted_more, is_counter, is_there, while_there, carried, count_of}
+use Rattle.flow_rules.specs.declared.change.Change.{Change}
+use Rattle.flow_rules.specs.Changes.{changed}
 use Rattle.port_state.specs.Raising.{HasRoomFor}
 use Rattle.flow_calls.specs.Totals.{totals_of}
 use Rattle.port_state.specs.Standing.{Standing, standing_of, Counts}
@@ -34,7 +37,7 @@ use Rattle.port_state.specs.Counted.{counted, HasRoom}
 use Rattle.adapter.specs.History.{IsLegalBehind, IsRight}
 use Rattle.flow_rules.specs.Limits.{AreLimits}
 use Rattle.adapter.specs.Sound.{Sound}
-use Rattle.port_state.proofs.StateKept.{IsUnder, IsUnder-state_of}
+use Rattle.port_state.proofs.StateKept.{IsUnder, IsUnder-state_of, state_of-push, state_of-nil}
 use Rattle.flow_rules.proofs.FatesBelow.{verdict-below}
 use Rattle.adapter.proofs.TotalsGrowth.{totals_of-asked, totals_of-passed, totals_of-room, totals_of-nil}
 
@@ -43,15 +46,6 @@ pub IsLegalBehind-push : (limits : Limits) (before h : List Entry) (e : Entry) �
 IsLegalBehind-push limits before [] e legal right = (subst (λ b. IsRight limits b e) (append-nil before) right, tt)
 IsLegalBehind-push limits before (x ∷ h) e legal right =
     (legal.0, IsLegalBehind-push limits (before ++ x ∷ []) h e legal.1 (subst (λ b. IsRight limits b e) (sym (append_assoc before (x ∷ []) h)) right))
-
--- the state behind one more entry
-pub state_of-push : (limits : Limits) (h : List Entry) (e : Entry) → state_of limits (h ++ e ∷ []) ≡ state_behind limits (state_of limits h) e
-unfolding state_of
-state_of-push limits h e = fold-append (state_behind limits) (opening limits) h (e ∷ [])
-
-pub state_of-nil : (limits : Limits) → state_of limits [] ≡ opening limits
-unfolding state_of
-state_of-nil limits = refl
 
 reply_to-is : (limits : Limits) (h : List Entry) (op : Op) → reply_to limits h op ≡ answer_of limits (standing_of limits h) op
 unfolding reply_to
@@ -98,6 +92,14 @@ answer-counts limits s t f g same (ops.ActionsTemplateCreate id attr lists) = re
 answer-counts limits s t f g same (ops.ActionsTemplateDestroy id) = refl
 answer-counts limits s t f g same (ops.TableCreate id attr rules_number templates) = refl
 answer-counts limits s t f g same (ops.TableDestroy id) = refl
+answer-counts limits s t f g same (ops.Configure queues size) = refl
+answer-counts limits s t f g same (ops.QueueCreate q postpone table pt act lists) = refl
+answer-counts limits s t f g same (ops.QueueDestroy q postpone rule) = refl
+answer-counts limits s t f g same (ops.QueueIndirectCreate q postpone id attr action) = refl
+answer-counts limits s t f g same (ops.QueueIndirectUpdate q postpone id action) = refl
+answer-counts limits s t f g same (ops.QueueIndirectDestroy q postpone id) = refl
+answer-counts limits s t f g same (ops.Push q) = refl
+answer-counts limits s t f g same (ops.Pull q) = refl
 answer-counts limits s t f g same (ops.Start _) = refl
 answer-counts limits s t f g same ops.Stop = refl
 answer-counts limits s t f g same ops.Quit = refl
@@ -112,32 +114,57 @@ reply-sound limits at h op sound =
     ∙ answer-counts limits (state_of limits h) (totals_of h) at.count (count_of limits h) sound.counts op
     ∙ sym (reply_to-is limits h op)
 
-while_there-few : (b : Bool) (n : Count) (k : ℕ) → (n.hits ≤ 256 * k) × (n.bytes ≤ 2 ^ 32 * n.hits)
-    → ((while_there b n).hits ≤ 256 * (k + 1)) × ((while_there b n).bytes ≤ 2 ^ 32 * (while_there b n).hits)
-while_there-few true n k few = (omega (arith, few.0), few.1)
+-- the facts on few frames
+abbrev IsFew : ℕ → Count → Type 0
+IsFew k n = (n.hits ≤ 256 * k) × (n.bytes ≤ 2 ^ 32 * n.hits)
+
+while_there-few : (b : Bool) (n : Count) (k : ℕ) → IsFew k n → IsFew k (while_there b n)
+while_there-few true n k few = few
 while_there-few false n k few = (omega arith, omega arith)
+
+carried-few : (c : Counter) (flows : Flows) (list : List Change) (n : Count) (k : ℕ) → IsFew k n → IsFew k (carried c flows list n)
+carried-few c flows [] n k few = few
+carried-few c flows (change ∷ list) n k few =
+    carried-few c (changed flows change) list (while_there (is_there c (changed flows change)) n) k (while_there-few (is_there c (changed flows change)) n k few)
+
+few-later : (n : Count) (k : ℕ) → IsFew k n → IsFew (k + 1) n
+few-later n k few = (omega (arith, few.0), few.1)
 
 -- behind a call that was answered and carried out
 pub Sound-asked : (limits : Limits) (at at' : Standing) (h : List Entry) (caller : Caller) (call : Call)
     → Sound limits at h → length h < 2 ^ 32 → at'.state ≡ next_state limits at.state call.op → at'.totals ≡ at.totals
-    → ((c : Counter) → at'.count c ≡ while_there (is_there c (flows_of at'.state)) (at.count c))
+    → ((c : Counter) → at'.count c ≡ carried c (flows_of at.state) (changes_by limits at.state call.op) (at.count c))
     → Sound limits at' (h ++ Asked caller call (answer_of limits at call.op) ∷ [])
 Sound-asked limits at at' h caller call sound more is totals counts =
     let e : Entry = Asked caller call (answer_of limits at call.op) in
-    let behind : at'.state ≡ state_behind limits (state_of limits h) e = is ∙ ap (λ s. next_state limits s call.op) sound.state in
+    let before = state_of limits h in
+    let behind : at'.state ≡ state_behind limits before e = is ∙ ap (λ s. next_state limits s call.op) sound.state in
     record {
       ranges = sound.ranges;
       state = behind ∙ sym (state_of-push limits h e);
       totals = totals ∙ sound.totals ∙ totals_of-asked h caller call (answer_of limits at call.op);
-      counts = λ c. counts c ∙ ap (λ (s : State). while_there (is_there c (flows_of s)) (at.count c)) behind
-          ∙ ap (while_there (is_there c (flows_of (state_behind limits (state_of limits h) e)))) (sound.counts c) ∙ sym (count_of-push limits h e c);
-      few = λ c. subst (λ (n : Count). (n.hits ≤ 256 * length (h ++ e ∷ [])) × (n.bytes ≤ 2 ^ 32 * n.hits)) (sym (counts c))
-          (subst (λ k. ((while_there (is_there c (flows_of at'.state)) (at.count c)).hits ≤ 256 * k)
-          × ((while_there (is_there c (flows_of at'.state)) (at.count c)).bytes ≤ 2 ^ 32 * (while_there (is_there c (flows_of at'.state)) (at.count c)).hits)) (sym (length-append h (e ∷ [])))
-          (while_there-few (is_there c (flows_of at'.state)) (at.count c) (length h) (sound.few c)));
+      counts = λ c. counts c ∙ ap (λ (s : State). carried c (flows_of s) (changes_by limits s call.op) (at.count c)) sound.state
+          ∙ ap (carried c (flows_of before) (changes_by limits before call.op)) (sound.counts c) ∙ sym (count_of-push limits h e c);
+      few = λ c. subst (IsFew (length (h ++ e ∷ []))) (sym (counts c))
+          (subst (λ k. IsFew k (carried c (flows_of at.state) (changes_by limits at.state call.op) (at.count c))) (sym (length-append h (e ∷ [])))
+          (few-later (carried c (flows_of at.state) (changes_by limits at.state call.op) (at.count c)) (length h)
+          (carried-few c (flows_of at.state) (changes_by limits at.state call.op) (at.count c) (length h) (sound.few c))));
       legal = IsLegalBehind-push limits [] h e sound.legal (reply-sound limits at h call.op sound);
       short = omega (arith, length-append h (e ∷ []));
     }
+
+-- where nothing but memory was taken
+pub Sound-same : (limits : Limits) (at at' : Standing) (h : List Entry) → Sound limits at h → at'.state ≡ at.state → at'.totals ≡ at.totals → ((c : Counter) → at'.count c ≡ at.count c)
+    → Sound limits at' h
+Sound-same limits at at' h sound state totals counts = record {
+  ranges = sound.ranges;
+  state = state ∙ sound.state;
+  totals = totals ∙ sound.totals;
+  counts = λ c. counts c ∙ sound.counts c;
+  few = λ c. subst (IsFew (length h)) (sym (counts c)) (sound.few c);
+  legal = sound.legal;
+  short = sound.short;
+}
 
 IsBelow-more : (n : ℕ) (fate : Fate) → n ≤ 16 → IsBelow n fate → IsBelow 16 fate
 IsBelow-more n (fates.Queue q) more below = omega arith

@@ -1,5 +1,3 @@
-pub mod ChangeList
-pub mod ChangeListInside
 pub mod History
 pub mod HistoryInside
 pub mod Kept

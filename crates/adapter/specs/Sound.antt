@@ -1,16 +1,16 @@
 -- What an adapter keeps true of its fields.
-use Rattle.std.specs.Prelude.{◌≡◌, ◌^◌, ◌*◌, ◌≤◌, List, length, All}
+use Rattle.std.specs.Prelude.{◌≡◌, ◌^◌, ◌*◌, ◌≤◌, List, length}
 use Rattle.flow_rules.specs.declared.limits.Limits.{Limits}
 use Rattle.flow_rules.specs.Limits.{AreLimits}
 use Rattle.adapter.specs.declared.adapter.Adapter.TheInside.{Inside}
 use Rattle.flow_calls.specs.declared.entry.Entry.{Entry}
-use Rattle.flow_rules.specs.declared.change.Change.{Change}
-use Rattle.port_state.specs.Changes.{HasFewActions, changes_of}
+use Rattle.port_state.specs.Changes.{AreTold}
 use Rattle.adapter.specs.Seen.{Seen}
 use Rattle.flow_rules.specs.declared.counter.Counter.{Counter}
 use Rattle.port_state.specs.State.{state_of}
 use Rattle.flow_calls.specs.Totals.{totals_of}
 use Rattle.port_state.specs.Counters.{count_of}
+use Rattle.port_state.specs.Kept.{AreKept}
 use Rattle.port_state.specs.Standing.{Standing, standing_kept}
 use Rattle.adapter.specs.History.{IsLegal}
 
@@ -28,10 +28,6 @@ pub record Sound (limits : Limits) (at : Standing) (history : List Entry) : Type
 abbrev pub view_of : Inside → Seen
 view_of a = record { limits = a.limits; history = a.history.entries; spare = a.history.spare }
 
--- the list has the changes of the history, and no rule among them has more than 16 actions
-pub record AreTold (limits : Limits) (history : List Entry) (list : List Change) : Type 0 where
-  pub all : list ≡ changes_of limits history
-  pub few : All HasFewActions list
-
+-- and the code keeps what flow queues hold
 abbrev pub IsSound : Inside → Type 0
-IsSound a = Sound a.limits (standing_kept a.standing) a.history.entries × AreTold a.limits a.history.entries a.changes.list
+IsSound a = Sound a.limits (standing_kept a.standing) a.history.entries × AreTold a.limits a.history.entries a.changes.list × AreKept a.standing.state

@@ -7,10 +7,10 @@ ghost use Rattle.adapter.specs.Spare.{no_spare, TakesFrames, TakesLine, Widens};
 
 use flow_calls::Call;
 use flow_calls::Caller;
-use crate::change_list::ChangeList;
+use port_state::ChangeList;
 use flow_calls::EntryView;
 use crate::history::History;
-use crate::kept::keep_call;
+use crate::kept::{copy_of_reply, keep_call};
 use crate::line::LineView;
 use port_state::{Judged, judge};
 use crate::packed::Packed;
@@ -115,19 +115,18 @@ impl Adapter {
         ensures spare { OnOk result (TakesLine self.old.spare self.new.spare) }
         ensures err { OnErr result (Stays self.old self.new) }
     {
-        self.standing.state.reserve()?;
-        self.changes.reserve()?;
+        let Judged { reply, effect } = judge(self.alloc, &self.limits, &self.standing, &call.op)?;
+        let more = self.standing.state.operations(&effect);
+        self.standing.state.reserve(more)?;
+        self.changes.reserve(more)?;
         self.history.make_room_for_line()?;
-        let Judged {
-            reply,
-            effect,
-            change,
-        } = judge(self.alloc, &self.limits, &self.standing, &call.op)?;
-        let kept = reply.clone()?;
+        let kept = copy_of_reply(&reply)?;
         let entry = keep_call(self.alloc, caller, call, kept)?;
-        self.standing.state.carry_out(&self.limits, effect)?;
-        self.changes.add(change);
+        self.standing
+            .state
+            .carry_out(self.alloc, &self.limits, effect, &mut self.changes)?;
         self.history.add_line(entry);
+        self.changes.len();
         Ok(reply)
     }
 

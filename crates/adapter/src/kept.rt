@@ -100,6 +100,13 @@ const _: () = prove!(size_of::<Stack>() <= 104);
 
 const _: () = prove!(size_of::<AskedCall>() <= 80);
 
+/// A copy of a reply.
+pub(crate) fn copy_of_reply(reply: &Reply) -> Result<Reply, AllocError>
+    ensures { IfOk result (λ copy. copy ≡ reply.now) }
+{
+    reply.clone()
+}
+
 /// A call and its reply, as they are kept.
 pub(crate) fn keep_call(
     alloc: Global,

@@ -42,19 +42,13 @@
 #![tactic(auto)]
 
 mod adapter;
-mod change_list;
 mod history;
 mod kept;
-mod laws;
 mod line;
 mod packed;
 mod spare;
 
 pub use adapter::Adapter;
-pub use laws::{
-    changes_are_lawful, changes_are_what_packets_see, changes_begin_with_those_of_a_front,
-    equal_changes_give_equal_flows, frames_change_nothing,
-};
 pub use line::LineView;
 pub use packed::Packed;
 pub use spare::Spare;

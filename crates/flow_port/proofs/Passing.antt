@@ -15,7 +15,7 @@ use Rattle.port_state.specs.Changes.{changes_of}
 use Rattle.adapter.specs.History.{IsFrame}
 use Rattle.adapter.specs.Seen.{Seen, Grows, Stays}
 use Rattle.port_state.specs.State.{flows_of, state_of}
-use Rattle.adapter.proofs.ChangesTold.{changes_of-passed}
+use Rattle.port_state.proofs.ChangesTold.{changes_of-passed}
 use Rattle.flow_port.specs.Bursts.{AreFit, passed_all, verdicts_by}
 use Rattle.flow_port.specs.Ports.{Grew}
 use Rattle.flow_port.specs.Standing.{Stands, IsCurrent}

@@ -13,7 +13,7 @@ use Rattle.flow_calls.specs.declared.entry.Entry.{Entry}
 use Rattle.port_state.specs.Changes.{changes_behind, changes_of, flows_at}
 use Rattle.port_state.specs.State.{flows_of, opening, state_of}
 use Rattle.adapter.specs.Seen.{Seen, Grows}
-use Rattle.adapter.proofs.ChangesTold.{changes_of-append, flows_of-changes}
+use Rattle.port_state.proofs.ChangesTold.{changes_of-append, flows_of-changes}
 use Rattle.turn_book.specs.Views.{BeginsWith}
 use Rattle.flow_port.specs.Standing.{Stands, IsCurrent}
 

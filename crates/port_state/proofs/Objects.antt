@@ -1,149 +1,61 @@
--- The shared actions that the code keeps are judged as those of the state are: they differ in counts and users alone.
-use Rattle.std.proofs.Common.{◌≡◌, ℕ, zero, suc, ◌+◌, ◌++◌, ◌||◌, not, nat_lt, nat_le, zero-add, arith, Bool, true, false, cond, nat_eq, map, length, is_some, List, [], ◌∷◌, Option, None, Some, IsSome, refl, sym, ap, ◌∙◌}
-use Rattle.std.specs.List.{list_any, count_by}
+-- The shared actions that the code keeps are judged as those of the state are: the same ids are in use, and the same values in effect.
+use Rattle.std.proofs.Common.{◌≡◌, ◌<◌, ℕ, zero, suc, ◌+◌, ◌++◌, ◌||◌, nat_lt, zero-add, arith, Bool, true, false, cond, nat_eq, map, length, is_some, flat_map, List, [], ◌∷◌, Option, None, Some, IsSome, refl, sym, ap, ◌∙◌}
+use Rattle.std.specs.List.{list_any, count_by, filter_map, cons_option, IsDistinct}
+use Rattle.std.specs.Map.{keys_of}
 use Rattle.std.specs.Option.{option_map, is_none}
-use Rattle.std.proofs.lemmas.Bool.{eqb-true, lt-ltb}
+use Rattle.std.proofs.lemmas.Bool.{lt-ltb}
+use Rattle.std.proofs.lemmas.Bool.{eqb-true}
+use Rattle.std.proofs.lemmas.List.{length-append, length-map}
+use Rattle.std.proofs.lemmas.List.Folds.{list_any-append}
 use Rattle.std.proofs.lemmas.List.Sums.{sum_by-cons}
-use Rattle.std.proofs.lemmas.List.Elements.{All-head, All-tail}
 use Rattle.flow_actions.specs.declared.action.Action.{Action}
-use Rattle.flow_actions.specs.Kinds.{kind_of, is_shareable}
 use Rattle.flow_rules.specs.declared.fault.Cause.TheVariants as causes
-use Rattle.flow_rules.specs.Faults.{fault_if, first, direction_faults, is_bad, is_count}
+use Rattle.flow_rules.specs.declared.fault.Fault.{Fault}
+use Rattle.flow_rules.specs.declared.spec.Attr.{Attr}
+use Rattle.flow_rules.specs.Faults.{fault_if, first}
+use Rattle.flow_rules.specs.Shared.{Shared, shared_at}
 use Rattle.rules_in_effect.specs.declared.in_effect.InEffect.{InEffect}
 use Rattle.rules_in_effect.specs.Entries as rules
-use Rattle.flow_rules.specs.declared.fault.Fault.{Fault}
-use Rattle.flow_rules.specs.Shared.{shared_at}
-use Rattle.flow_rules.specs.declared.spec.Attr.{Attr}
+use Rattle.object_ids.specs.Ids.{id_for, is_used}
+use Rattle.op_queues.specs.OpQueue.{Queue}
 use Rattle.indirect_counters.specs.declared.shared_action.SharedAction.{SharedAction}
 use Rattle.indirect_counters.specs.Counts.{no_count}
-use Rattle.object_ids.specs.Ids.{id_for, is_taken, unused_from}
 use Rattle.indirect_counters.specs.Entries.{Entries, entry_at, if_in_effect, in_effect_at, value_at, values_in_effect}
 use Rattle.indirect_counters.specs.Sound.{CanAdd}
-use Rattle.indirect_counters.specs.Refusals.{create_fault, is_of_other_kind, update_fault, has_users, destroy_fault}
-use Rattle.port_state.specs.State.{is_user}
-use Rattle.port_state.specs.KeptState.{placed}
-use Rattle.port_state.specs.StateInside.{AreInEffect}
+use Rattle.indirect_counters.specs.Refusals.{create_fault, update_fault, has_users, destroy_fault}
+use Rattle.indirect_counters.proofs.Effects.{seen-at}
+use Rattle.port_state.specs.declared.held.Held.{Held}
+use Rattle.port_state.specs.declared.held.Held.TheVariants as held
+use Rattle.port_state.specs.Apart.{is_held_shared, is_shared_creation}
+use Rattle.port_state.specs.Kept.{AreKept}
+use Rattle.port_state.specs.KeptState.{KeptState, placed, state_in}
+use Rattle.port_state.specs.Queue.{FlowQueue}
+use Rattle.port_state.specs.State.{all_held, held_object, is_held_user, is_user, objects}
+use Rattle.port_state.specs.StateInside.{queue_of}
+use Rattle.object_ids.proofs.Alike.{id_for-alike}
+use Rattle.indirect_counters.proofs.Alike.{create_faults-alike, update_faults-alike}
 
 -- a shared action as it is judged, by the number of rules that use each id
 abbrev pub object : (ℕ → ℕ) → ℕ × Action → ℕ × SharedAction
 object users entry = (entry.0, record { value = entry.1; users = users entry.0; held = false; count = no_count })
 
-abbrev pub object_of : ℕ → SharedAction → SharedAction
-object_of users entry = record { value = entry.value; users = users; held = false; count = no_count }
+abbrev pub object_of : ℕ → Action → SharedAction
+object_of users value = record { value = value; users = users; held = false; count = no_count }
 
--- where all are in effect, their values are those of all entries
-pub all-values : (e : ℕ × SharedAction) (entries : Entries) → AreInEffect (e ∷ entries) → values_in_effect (e ∷ entries) ≡ (e.0, e.1.value) ∷ values_in_effect entries
-all-values e entries all = ap (λ b. cond b (values_in_effect entries) ((e.0, e.1.value) ∷ values_in_effect entries)) (All-head (λ (x : ℕ × SharedAction). x.1.held ≡ false) e entries all)
+-- those in effect, and those whose creation is held
+abbrev pub judged : (ℕ → ℕ) → Shared → List Held → Entries
+judged users values ops = map (object users) values ++ filter_map held_object ops
 
-pub rest : (e : ℕ × SharedAction) (entries : Entries) → AreInEffect (e ∷ entries) → AreInEffect entries
-rest e entries all = All-tail (λ (x : ℕ × SharedAction). x.1.held ≡ false) e entries all
+-- ---- counts of tests
 
-length-objects : (users : ℕ → ℕ) (entries : Entries) → AreInEffect entries → length (map (object users) (values_in_effect entries)) ≡ length entries
-length-objects users [] all = refl
-length-objects users (e ∷ entries) all =
-    ap (λ (vs : List (ℕ × Action)). length (map (object users) vs)) (all-values e entries all) ∙ ap suc (length-objects users entries (rest e entries all))
-
-pub entry_at-objects : (users : ℕ → ℕ) (entries : Entries) → AreInEffect entries → (q : ℕ)
-    → entry_at q (map (object users) (values_in_effect entries)) ≡ option_map (object_of (users q)) (entry_at q entries)
-entry_at-objects users [] all q = refl
-entry_at-objects users (e ∷ entries) all q =
-    ap (λ (vs : List (ℕ × Action)). entry_at q (map (object users) vs)) (all-values e entries all)
-    ∙ by (nat_eq q e.0) refl (entry_at-objects users entries (rest e entries all) q) where
-      by : (b : Bool) → nat_eq q e.0 ≡ b → entry_at q (map (object users) (values_in_effect entries)) ≡ option_map (object_of (users q)) (entry_at q entries)
-          → cond b (Some (object_of (users e.0) e.1)) (entry_at q (map (object users) (values_in_effect entries)))
-          ≡ option_map (object_of (users q)) (cond b (Some e.1) (entry_at q entries))
-      by true same behind = ap (λ k. Some (object_of (users k) e.1)) (sym (eqb-true q e.0 same))
-      by false same behind = behind
-
-is_some-map : (f : SharedAction → SharedAction) (o : Option SharedAction) → is_some (option_map f o) ≡ is_some o
-is_some-map f None = refl
-is_some-map f (Some x) = refl
-
-in_use-objects : (users : ℕ → ℕ) (entries : Entries) → AreInEffect entries → (q : ℕ)
-    → is_some (entry_at q (map (object users) (values_in_effect entries))) ≡ is_some (entry_at q entries)
-in_use-objects users entries all q = ap (λ (o : Option SharedAction). is_some o) (entry_at-objects users entries all q) ∙ is_some-map (object_of (users q)) (entry_at q entries)
-
-unused_from-same : (es os : Entries) → ((q : ℕ) → is_some (entry_at q os) ≡ is_some (entry_at q es)) → (more k : ℕ) → unused_from more k os ≡ unused_from more k es
-unused_from-same es os same zero k = refl
-unused_from-same es os same (suc more) k =
-    ap (λ b. cond b (unused_from more (k + 1) os) k) (same k) ∙ ap (λ n. cond (is_some (entry_at k es)) n k) (unused_from-same es os same more (k + 1))
-
-pub id_for-objects : (users : ℕ → ℕ) (entries : Entries) → AreInEffect entries → (id : Option ℕ) → id_for id (map (object users) (values_in_effect entries)) ≡ id_for id entries
-id_for-objects users entries all (Some id) = refl
-id_for-objects users entries all None =
-    let os = map (object users) (values_in_effect entries) in
-    unused_from-same entries os (in_use-objects users entries all) (length os) 0 ∙ ap (λ n. unused_from n 0 entries) (length-objects users entries all)
-
-taken-objects : (users : ℕ → ℕ) (entries : Entries) → AreInEffect entries → (id : Option ℕ) → is_taken id (map (object users) (values_in_effect entries)) ≡ is_taken id entries
-taken-objects users entries all None = refl
-taken-objects users entries all (Some id) = in_use-objects users entries all id
-
-pub create-objects : (users : ℕ → ℕ) (entries : Entries) → AreInEffect entries → (rxq : ℕ) (id : Option ℕ) (attr : Attr) (action : Action)
-    → create_fault rxq (map (object users) (values_in_effect entries)) id attr action ≡ create_fault rxq entries id attr action
-create-objects users entries all rxq id attr action =
-    let by_parts : Bool → ℕ → Option Fault
-    = λ taken count. first (direction_faults attr
-    ++ (fault_if (not (is_shareable (kind_of action))) causes.KindNotIndirect 0
-    ++ (fault_if (is_bad rxq 0 action) causes.ActionConf 0
-    ++ (fault_if taken causes.IdInUse 0 ++ fault_if (nat_le 1024 count) causes.TooMany 0)))) in
-    ap (λ b. by_parts b (length (map (object users) (values_in_effect entries)))) (taken-objects users entries all id)
-    ∙ ap (by_parts (is_taken id entries)) (length-objects users entries all)
-
--- there is a place for one more, or not, for both
-pub CanAdd-objects : (users : ℕ → ℕ) (entries : Entries) → AreInEffect entries → (id : ℕ) (action : Action)
-    → CanAdd id action entries → CanAdd id action (map (object users) (values_in_effect entries))
-CanAdd-objects users entries all id action can = record {
-  shareable = can.shareable;
-  free = entry_at-objects users entries all id ∙ ap (option_map (object_of (users id))) can.free;
-  place = omega (arith, can.place, length-objects users entries all);
-}
-
-pub CanAdd-entries : (users : ℕ → ℕ) (entries : Entries) → AreInEffect entries → (id : ℕ) (action : Action)
-    → CanAdd id action (map (object users) (values_in_effect entries)) → CanAdd id action entries
-CanAdd-entries users entries all id action can = record {
-  shareable = can.shareable;
-  free = none-of (entry_at id entries) (sym (entry_at-objects users entries all id) ∙ can.free);
-  place = omega (arith, can.place, length-objects users entries all);
-} where
-  none-of : (o : Option SharedAction) → option_map (object_of (users id)) o ≡ None → o ≡ None
-  none-of None none = refl
-  none-of (Some x) none = cc
-
--- what stands at an id is in effect
-pub found-held : (entries : Entries) → AreInEffect entries → (q : ℕ) → in_effect_at q entries ≡ entry_at q entries
-found-held [] all q = refl
-found-held (e ∷ entries) all q = by (nat_eq q e.0) (found-held entries (rest e entries all) q) where
-  by : (b : Bool) → if_in_effect (entry_at q entries) ≡ entry_at q entries → if_in_effect (cond b (Some e.1) (entry_at q entries)) ≡ cond b (Some e.1) (entry_at q entries)
-  by true behind = ap (λ h. cond h None (Some e.1)) (All-head (λ (x : ℕ × SharedAction). x.1.held ≡ false) e entries all)
-  by false behind = behind
-
-if-object : (users : ℕ) (o : Option SharedAction) → if_in_effect (option_map (object_of users) o) ≡ option_map (object_of users) o
-if-object users None = refl
-if-object users (Some x) = refl
-
-pub in_effect-objects : (users : ℕ → ℕ) (entries : Entries) → AreInEffect entries → (q : ℕ)
-    → in_effect_at q (map (object users) (values_in_effect entries)) ≡ option_map (object_of (users q)) (in_effect_at q entries)
-in_effect-objects users entries all q =
-    ap if_in_effect (entry_at-objects users entries all q) ∙ if-object (users q) (entry_at q entries) ∙ ap (option_map (object_of (users q))) (sym (found-held entries all q))
-
-other_kind-object : (users : ℕ) (action : Action) (o : Option SharedAction) → is_of_other_kind action (option_map (object_of users) o) ≡ is_of_other_kind action o
-other_kind-object users action None = refl
-other_kind-object users action (Some x) = refl
-
-none-object : (users : ℕ) (o : Option SharedAction) → is_none (option_map (object_of users) o) ≡ is_none o
-none-object users None = refl
-none-object users (Some x) = refl
-
-pub update-objects : (users : ℕ → ℕ) (entries : Entries) → AreInEffect entries → (rxq id : ℕ) (action : Action)
-    → update_fault rxq (map (object users) (values_in_effect entries)) id action ≡ update_fault rxq entries id action
-update-objects users entries all rxq id action =
-    let by_parts : Bool → Bool → Option Fault
-    = λ missing other. first (fault_if missing causes.NoObject 0
-    ++ (fault_if other causes.KindDiffers 0 ++ (fault_if (is_count action) causes.CannotUpdate 0 ++ fault_if (is_bad rxq 0 action) causes.ActionConf 0))) in
-    let found = in_effect-objects users entries all id in
-    ap (λ (o : Option SharedAction). by_parts (is_none o) (is_of_other_kind action o)) found
-    ∙ ap (λ b. by_parts b (is_of_other_kind action (option_map (object_of (users id)) (in_effect_at id entries)))) (none-object (users id) (in_effect_at id entries))
-    ∙ ap (by_parts (is_none (in_effect_at id entries))) (other_kind-object (users id) action (in_effect_at id entries))
+-- as many are given as pass the test
+pub length-filter_map : {X Y : Type 0} (h : X → Option Y) (p : X → Bool) → ((x : X) → is_some (h x) ≡ p x) → (xs : List X) → length (filter_map h xs) ≡ count_by p xs
+length-filter_map h p same [] = refl
+length-filter_map {X} {Y} h p same (x ∷ xs) =
+    long (h x) (length-filter_map h p same xs) ∙ ap (λ b. cond b 1 0 + count_by p xs) (same x) ∙ sym (sum_by-cons (λ a. cond (p a) 1 0) x xs) where
+      long : (o : Option Y) → length (filter_map h xs) ≡ count_by p xs → length (cons_option o (filter_map h xs)) ≡ cond (is_some o) 1 0 + count_by p xs
+      long None behind = behind ∙ sym (zero-add (count_by p xs))
+      long (Some y) behind = omega (arith, behind)
 
 -- one of a list passes a test where they are counted to more than 0
 pub any-count : {A : Type 0} (p : A → Bool) (xs : List A) → nat_lt 0 (count_by p xs) ≡ list_any p xs
@@ -153,44 +65,171 @@ any-count p (x ∷ xs) = ap (nat_lt 0) (sum_by-cons (λ a. cond (p a) 1 0) x xs)
   by true behind = lt-ltb 0 (1 + count_by p xs) (omega arith)
   by false behind = ap (nat_lt 0) (zero-add (count_by p xs)) ∙ behind
 
--- no rule that is counted, or some
-pub destroy-objects : (list : List InEffect) (entries : Entries) → AreInEffect entries → (id : ℕ)
-    → destroy_fault (map (object (λ k. count_by (is_user k) (map placed list))) (values_in_effect entries)) id
-    ≡ first (fault_if (is_none (in_effect_at id entries)) causes.NoObject 0 ++ fault_if (list_any (rules.is_user id) list) causes.Busy 0)
-destroy-objects list entries all id = by (in_effect_at id entries) (in_effect-objects users entries all id) where
-  users : ℕ → ℕ
-  users = λ k. count_by (is_user k) (map placed list)
+-- the sum of two is more than 0 where one of them is
+some-sum : (m n : ℕ) → nat_lt 0 (m + n) ≡ (nat_lt 0 m || nat_lt 0 n)
+some-sum zero n = ap (nat_lt 0) (zero-add n)
+some-sum (suc m) n = lt-ltb 0 (suc m + n) (omega arith) ∙ sym (ap (λ b. b || nat_lt 0 n) (lt-ltb 0 (suc m) (omega arith)))
 
-  judged : Option SharedAction → Option Fault
-  judged o = first (fault_if (is_none o) causes.NoObject 0 ++ fault_if (has_users o) causes.Busy 0)
+-- an operation that one of the queues holds
+pub any-queue : (p : Held → Bool) (queues : List (Queue Held))
+    → list_any (λ (queue : Queue Held). list_any p queue.held) queues ≡ list_any p (flat_map (λ (queue : FlowQueue). queue.held) (map queue_of queues))
+any-queue p [] = refl
+any-queue p (q ∷ queues) =
+    ap (λ b. list_any p q.held || b) (any-queue p queues) ∙ sym (list_any-append p q.held (flat_map (λ (queue : FlowQueue). queue.held) (map queue_of queues)))
 
-  any-placed : (xs : List InEffect) → list_any (is_user id) (map placed xs) ≡ list_any (rules.is_user id) xs
-  any-placed [] = refl
-  any-placed (x ∷ xs) = ap (λ b. rules.is_user id x || b) (any-placed xs)
+-- ---- what is judged
 
-  by : (o : Option SharedAction) → in_effect_at id (map (object users) (values_in_effect entries)) ≡ option_map (object_of (users id)) o
-      → judged (in_effect_at id (map (object users) (values_in_effect entries)))
-      ≡ first (fault_if (is_none o) causes.NoObject 0 ++ fault_if (list_any (rules.is_user id) list) causes.Busy 0)
-  by None found = ap judged found
-  by (Some x) found = ap judged found ∙ ap (λ b. first (fault_if b causes.Busy 0)) (any-count (is_user id) (map placed list) ∙ any-placed list)
+-- a creation that is held isn't in effect
+held-unseen : (q : ℕ) (ops : List Held) → in_effect_at q (filter_map held_object ops) ≡ None
+held-unseen q [] = refl
+held-unseen q (held.RuleCreated rule table ∷ ops) = held-unseen q ops
+held-unseen q (held.RuleDestroyed id ∷ ops) = held-unseen q ops
+held-unseen q (held.SharedUpdated id value ∷ ops) = held-unseen q ops
+held-unseen q (held.SharedDestroyed id ∷ ops) = held-unseen q ops
+held-unseen q (held.SharedCreated id value ∷ ops) = by (nat_eq q id) (held-unseen q ops) where
+  by : (b : Bool) → in_effect_at q (filter_map held_object ops) ≡ None
+      → if_in_effect (cond b (Some (record { value = value; users = 0; held = true; count = no_count })) (entry_at q (filter_map held_object ops))) ≡ None
+  by true behind = refl
+  by false behind = behind
+
+-- what is judged at an id is what is in effect there
+pub judged-at : (users : ℕ → ℕ) (values : Shared) (ops : List Held) (q : ℕ) → in_effect_at q (judged users values ops) ≡ option_map (object_of (users q)) (shared_at q values)
+judged-at users [] ops q = held-unseen q ops
+judged-at users (v ∷ values) ops q = by (nat_eq q v.0) refl (judged-at users values ops q) where
+  by : (b : Bool) → nat_eq q v.0 ≡ b → in_effect_at q (judged users values ops) ≡ option_map (object_of (users q)) (shared_at q values)
+      → if_in_effect (cond b (Some (object_of (users v.0) v.1)) (entry_at q (judged users values ops))) ≡ option_map (object_of (users q)) (cond b (Some v.1) (shared_at q values))
+  by true same behind = ap (λ k. Some (object_of (users k) v.1)) (sym (eqb-true q v.0 same))
+  by false other behind = behind
+
+value-object : (n : ℕ) (o : Option Action) → option_map (λ (e : SharedAction). e.value) (option_map (object_of n) o) ≡ o
+value-object n None = refl
+value-object n (Some x) = refl
+
+pub judged-value : (users : ℕ → ℕ) (values : Shared) (ops : List Held) (q : ℕ) → value_at q (judged users values ops) ≡ shared_at q values
+judged-value users values ops q = ap (option_map (λ (e : SharedAction). e.value)) (judged-at users values ops q) ∙ value-object (users q) (shared_at q values)
+
+-- its id is in use
+used-held : (q : ℕ) (ops : List Held) → is_used q (filter_map held_object ops) ≡ list_any (is_held_shared q) ops
+used-held q [] = refl
+used-held q (held.RuleCreated rule table ∷ ops) = used-held q ops
+used-held q (held.RuleDestroyed id ∷ ops) = used-held q ops
+used-held q (held.SharedUpdated id value ∷ ops) = used-held q ops
+used-held q (held.SharedDestroyed id ∷ ops) = used-held q ops
+used-held q (held.SharedCreated id value ∷ ops) = by (nat_eq q id) (used-held q ops) where
+  by : (b : Bool) → is_used q (filter_map held_object ops) ≡ list_any (is_held_shared q) ops
+      → is_some (cond b (Some (record { value = value; users = 0; held = true; count = no_count })) (entry_at q (filter_map held_object ops))) ≡ (b || list_any (is_held_shared q) ops)
+  by true behind = refl
+  by false behind = behind
+
+judged-used : (users : ℕ → ℕ) (values : Shared) (ops : List Held) (q : ℕ) → is_used q (judged users values ops) ≡ (is_some (shared_at q values) || list_any (is_held_shared q) ops)
+judged-used users [] ops q = used-held q ops
+judged-used users (v ∷ values) ops q = by (nat_eq q v.0) (judged-used users values ops q) where
+  by : (b : Bool) → is_used q (judged users values ops) ≡ (is_some (shared_at q values) || list_any (is_held_shared q) ops)
+      → is_some (cond b (Some (object_of (users v.0) v.1)) (entry_at q (judged users values ops))) ≡ (is_some (cond b (Some v.1) (shared_at q values)) || list_any (is_held_shared q) ops)
+  by true behind = refl
+  by false behind = behind
+
+is-creation : (op : Held) → is_some (held_object op) ≡ is_shared_creation op
+is-creation (held.RuleCreated rule table) = refl
+is-creation (held.RuleDestroyed id) = refl
+is-creation (held.SharedCreated id value) = refl
+is-creation (held.SharedUpdated id value) = refl
+is-creation (held.SharedDestroyed id) = refl
+
+judged-length : (users : ℕ → ℕ) (values : Shared) (ops : List Held) → length (judged users values ops) ≡ length values + count_by is_shared_creation ops
+judged-length users values ops =
+    length-append (map (object users) values) (filter_map held_object ops)
+    ∙ ap (λ n. n + length (filter_map held_object ops)) (length-map values (object users))
+    ∙ ap (λ n. length values + n) (length-filter_map held_object is_shared_creation is-creation ops)
+
+-- ---- what is kept, and what is judged
+
+-- the same ids are in use, as many of them
+pub objects-used : (k : KeptState) → AreKept k → (q : ℕ) → is_used q k.shared ≡ is_used q (objects (state_in k))
+objects-used k kept q =
+    let s = state_in k in
+    kept.used q
+    ∙ ap (λ b. is_some (shared_at q s.shared) || b) (any-count (is_held_shared q) (all_held s))
+    ∙ sym (judged-used (λ id. count_by (is_user id) s.rules + count_by (is_held_user id) (all_held s)) s.shared (all_held s) q)
+
+pub objects-length : (k : KeptState) → AreKept k → length k.shared ≡ length (objects (state_in k))
+objects-length k kept =
+    let s = state_in k in
+    kept.number ∙ sym (judged-length (λ id. count_by (is_user id) s.rules + count_by (is_held_user id) (all_held s)) s.shared (all_held s))
+
+pub objects-id : (k : KeptState) → AreKept k → (id : Option ℕ) → id_for id k.shared ≡ id_for id (objects (state_in k))
+objects-id k kept id = id_for-alike k.shared (objects (state_in k)) (objects-used k kept) id (objects-length k kept)
+
+pub objects-create : (k : KeptState) → AreKept k → (rxq : ℕ) (id : Option ℕ) (attr : Attr) (value : Action)
+    → create_fault rxq k.shared id attr value ≡ create_fault rxq (objects (state_in k)) id attr value
+objects-create k kept rxq id attr value = ap first (create_faults-alike k.shared (objects (state_in k)) (objects-used k kept) (objects-length k kept) rxq id attr value)
+
+-- there is a place for one more in both lists, or in none
+CanAdd-alike : (xs ys : Entries) → ((q : ℕ) → is_used q xs ≡ is_used q ys) → length xs ≡ length ys → (id : ℕ) (value : Action) → CanAdd id value xs → CanAdd id value ys
+CanAdd-alike xs ys used long id value can = record {
+  shareable = can.shareable;
+  free = none-of (entry_at id ys) (sym (used id) ∙ ap (λ (o : Option SharedAction). is_some o) can.free);
+  place = omega (arith, can.place, long);
+} where
+  none-of : (o : Option SharedAction) → is_some o ≡ false → o ≡ None
+  none-of None none = refl
+  none-of (Some x) none = cc
+
+pub CanAdd-objects : (k : KeptState) → AreKept k → (id : ℕ) (value : Action) → CanAdd id value k.shared → CanAdd id value (objects (state_in k))
+CanAdd-objects k kept id value can = CanAdd-alike k.shared (objects (state_in k)) (objects-used k kept) (objects-length k kept) id value can
+
+pub CanAdd-entries : (k : KeptState) → AreKept k → (id : ℕ) (value : Action) → CanAdd id value (objects (state_in k)) → CanAdd id value k.shared
+CanAdd-entries k kept id value can =
+    CanAdd-alike (objects (state_in k)) k.shared (λ q. sym (objects-used k kept q)) (sym (objects-length k kept)) id value can
+
+-- the same values are in effect
+pub objects-value : (k : KeptState) → IsDistinct nat_eq (keys_of k.shared) → (q : ℕ) → value_at q k.shared ≡ value_at q (objects (state_in k))
+objects-value k ids q =
+    let s = state_in k in
+    sym (seen-at q k.shared ids)
+    ∙ sym (judged-value (λ id. count_by (is_user id) s.rules + count_by (is_held_user id) (all_held s)) s.shared (all_held s) q)
+
+pub objects-update : (k : KeptState) → IsDistinct nat_eq (keys_of k.shared) → (rxq id : ℕ) (value : Action)
+    → update_fault rxq k.shared id value ≡ update_fault rxq (objects (state_in k)) id value
+objects-update k ids rxq id value = ap first (update_faults-alike k.shared (objects (state_in k)) id (objects-value k ids id) rxq value)
+
+-- a rule in effect uses an id, or one whose creation is held
+any-placed : (id : ℕ) (xs : List InEffect) → list_any (is_user id) (map placed xs) ≡ list_any (rules.is_user id) xs
+any-placed id [] = refl
+any-placed id (x ∷ xs) = ap (λ b. rules.is_user id x || b) (any-placed id xs)
+
+any-users : (k : KeptState) (id : ℕ) → nat_lt 0 (count_by (is_user id) (state_in k).rules + count_by (is_held_user id) (all_held (state_in k)))
+    ≡ (list_any (rules.is_user id) k.rules || list_any (is_held_user id) (all_held (state_in k)))
+any-users k id =
+    let s = state_in k in
+    some-sum (count_by (is_user id) s.rules) (count_by (is_held_user id) (all_held s))
+    ∙ ap (λ b. b || nat_lt 0 (count_by (is_held_user id) (all_held s))) (any-count (is_user id) s.rules ∙ any-placed id k.rules)
+    ∙ ap (λ b. list_any (rules.is_user id) k.rules || b) (any-count (is_held_user id) (all_held s))
+
+-- none is there, or rules use it
+abbrev pub end_fault : Option Action → Bool → Option Fault
+end_fault o used = first (fault_if (is_none o) causes.NoObject 0 ++ fault_if used causes.Busy 0)
+
+pub objects-destroy : (k : KeptState) → IsDistinct nat_eq (keys_of k.shared) → (id : ℕ)
+    → end_fault (value_at id k.shared) (list_any (rules.is_user id) k.rules || list_any (is_held_user id) (all_held (state_in k))) ≡ destroy_fault (objects (state_in k)) id
+objects-destroy k ids id =
+    let s = state_in k in
+    let users : ℕ → ℕ = λ q. count_by (is_user q) s.rules + count_by (is_held_user q) (all_held s) in
+    ap (λ o. end_fault o (list_any (rules.is_user id) k.rules || list_any (is_held_user id) (all_held s))) (sym (seen-at id k.shared ids))
+    ∙ ap (end_fault (shared_at id s.shared)) (sym (any-users k id))
+    ∙ by (users id) (shared_at id s.shared)
+    ∙ sym (ap faults (judged-at users s.shared (all_held s) id)) where
+      faults : Option SharedAction → Option Fault
+      faults o = first (fault_if (is_none o) causes.NoObject 0 ++ fault_if (has_users o) causes.Busy 0)
+
+      by : (n : ℕ) (o : Option Action) → end_fault o (nat_lt 0 n) ≡ faults (option_map (object_of n) o)
+      by n None = refl
+      by n (Some x) = refl
 
 -- what may go is there
-pub destroy-there : (list : List InEffect) (entries : Entries) → AreInEffect entries → (id : ℕ)
-    → destroy_fault (map (object (λ k. count_by (is_user k) (map placed list))) (values_in_effect entries)) id ≡ None → IsSome (in_effect_at id entries)
-destroy-there list entries all id none = by (in_effect_at id entries) (list_any (rules.is_user id) list) (sym (destroy-objects list entries all id) ∙ none) where
-  by : (o : Option SharedAction) (used : Bool) → first (fault_if (is_none o) causes.NoObject 0 ++ fault_if used causes.Busy 0) ≡ None → IsSome o
-  by None used e = cc
-  by (Some x) used e = refl
-
--- where all are in effect, the value at an id is the one that frames meet
-pub shared_at-values : (entries : Entries) → AreInEffect entries → (q : ℕ) → shared_at q (values_in_effect entries) ≡ option_map (λ (e : SharedAction). e.value) (entry_at q entries)
-shared_at-values [] all q = refl
-shared_at-values (e ∷ entries) all q =
-    ap (shared_at q) (all-values e entries all) ∙ by (nat_eq q e.0) (shared_at-values entries (rest e entries all) q) where
-      by : (b : Bool) → shared_at q (values_in_effect entries) ≡ option_map (λ (x : SharedAction). x.value) (entry_at q entries)
-          → cond b (Some e.1.value) (shared_at q (values_in_effect entries)) ≡ option_map (λ (x : SharedAction). x.value) (cond b (Some e.1) (entry_at q entries))
-      by true behind = refl
-      by false behind = behind
-
-pub value_at-values : (entries : Entries) → AreInEffect entries → (q : ℕ) → shared_at q (values_in_effect entries) ≡ value_at q entries
-value_at-values entries all q = shared_at-values entries all q ∙ ap (option_map (λ (e : SharedAction). e.value)) (sym (found-held entries all q))
+pub destroy-there : (k : KeptState) → IsDistinct nat_eq (keys_of k.shared) → (id : ℕ) → destroy_fault (objects (state_in k)) id ≡ None → IsSome (in_effect_at id k.shared)
+destroy-there k ids id none =
+    by (in_effect_at id k.shared) (list_any (rules.is_user id) k.rules || list_any (is_held_user id) (all_held (state_in k))) (objects-destroy k ids id ∙ none) where
+      by : (o : Option SharedAction) (used : Bool) → end_fault (option_map (λ (e : SharedAction). e.value) o) used ≡ None → IsSome o
+      by None used e = cc
+      by (Some x) used e = refl

@@ -1,13 +1,14 @@
 -- Counters that rise, one behind the other.
-use Rattle.std.proofs.Common.{◌^◌, ◌<◌, ◌≤◌, length, flat_map, take, get_or, ◌≡◌, ℕ, ◌+◌, ◌*◌, Bool, true, false, cond, nat_eq, map, count_by, List, [], ◌∷◌, ◌++◌, Option, None, Some, IsSome, refl, sym, ap, ◌∙◌, subst, arith}
+use Rattle.std.proofs.Common.{◌^◌, ◌<◌, ◌≤◌, length, flat_map, take, get_or, ◌≡◌, ℕ, ◌+◌, ◌*◌, Bool, true, false, cond, ◌||◌, nat_eq, nat_lt, is_some, map, count_by, List, [], ◌∷◌, ◌++◌, Option, None, Some, IsSome, refl, sym, ap, ◌∙◌, subst, arith}
 use Rattle.std.specs.Option.{option_map, option_to_list}
 use Rattle.std.proofs.lemmas.Nat.{mul-le}
+use Rattle.std.proofs.lemmas.List.Elements.{All-weaker}
 use Rattle.std.proofs.lemmas.List.{append-nil, take_more, take_all}
 use Rattle.std.proofs.lemmas.List.Concat.{flat_map-append}
 use Rattle.flow_actions.specs.declared.action.Action.{Action}
 use Rattle.flow_actions.specs.declared.action.Action.TheVariants as actions
 use Rattle.flow_rules.specs.RuleView.{RuleView}
-use Rattle.flow_rules.specs.Shared.{Shared, counter_in, value_in}
+use Rattle.flow_rules.specs.Shared.{Shared, counter_in, shared_at, value_in}
 use Rattle.flow_rules.specs.Naming.{rule_at, named_by, namings, namings_of}
 use Rattle.port_state.specs.State.{Placed, rule_in}
 use Rattle.port_state.proofs.RulesKept.{rules-placed}
@@ -22,10 +23,15 @@ use Rattle.rules_in_effect.specs.Entries as rules
 use Rattle.rules_in_effect.proofs.Distinct.{entry_at-raised_same, entry_at-raised_other}
 use Rattle.indirect_counters.specs.declared.shared_action.SharedAction.{SharedAction}
 use Rattle.indirect_counters.specs.Counts.{counted}
-use Rattle.indirect_counters.specs.Entries.{Entries, entry_at, if_in_effect, in_effect_at, values_in_effect}
+use Rattle.indirect_counters.specs.Entries.{Entries, created, entry_at, if_in_effect, in_effect_at, values_in_effect}
 use Rattle.flow_rules.specs.Changes.{has_id}
 use Rattle.indirect_counters.specs.Effects.{raised}
-use Rattle.indirect_counters.proofs.Lawful.{All-changed_at, AreOn-changed_at}
+use Rattle.indirect_counters.proofs.Lawful.{AreOn-changed_at, length-changed_at}
+use Rattle.template_tables.specs.TemplatesView.{TemplatesView}
+use Rattle.port_state.specs.declared.held.Held.{Held}
+use Rattle.port_state.specs.declared.held.Held.TheVariants as held
+use Rattle.port_state.specs.Apart.{is_held_shared, is_shared_creation}
+use Rattle.port_state.specs.Kept.{AreKeptFor, IsHeldIn}
 use Rattle.port_state.specs.Counters.{counted_more, is_counter}
 use Rattle.port_state.specs.KeptState.{placed, count_kept, count_of_rule, count_of_shared}
 use Rattle.port_state.specs.Raising.{Raises, HasRoomFor, actions_in, naming_at, namings_up}
@@ -57,7 +63,9 @@ pub Raises-none : (rules : List InEffect) (shared : Entries) (bytes : ℕ) → R
 Raises-none rules shared bytes = record {
   rules_same = refl;
   values_same = refl;
-  in_effect = λ all. all;
+  used = λ id. refl;
+  number = refl;
+  held = λ id value is. is;
   on_port = λ rxq all. all;
   counts = λ c. sym (counted_more-none (count_kept rules shared c) bytes);
 }
@@ -67,7 +75,9 @@ pub Raises-then : (r r1 r2 : List InEffect) (s s1 s2 : Entries) (xs ys : List Co
 Raises-then r r1 r2 s s1 s2 xs ys bytes p q = record {
   rules_same = q.rules_same ∙ p.rules_same;
   values_same = q.values_same ∙ p.values_same;
-  in_effect = λ all. q.in_effect (p.in_effect all);
+  used = λ id. q.used id ∙ p.used id;
+  number = q.number ∙ p.number;
+  held = λ id value is. q.held id value (p.held id value is);
   on_port = λ rxq all. q.on_port rxq (p.on_port rxq all);
   counts = λ c. q.counts c
       ∙ ap (λ n. counted_more n (count_by (is_counter c) ys) bytes) (p.counts c)
@@ -95,7 +105,9 @@ pub Raises-rule : (id bytes : ℕ) (list : List InEffect) (shared : Entries) →
 Raises-rule id bytes list shared there same = record {
   rules_same = same;
   values_same = refl;
-  in_effect = λ all. all;
+  used = λ id. refl;
+  number = refl;
+  held = λ id value is. is;
   on_port = λ rxq all. all;
   counts = counts;
 } where
@@ -115,22 +127,51 @@ Raises-rule id bytes list shared there same = record {
         ∙ sym (counted_more-none (count_of_rule (rules.entry_at q list)) bytes)
         ∙ ap (λ k. counted_more (count_of_rule (rules.entry_at q list)) k bytes) (sym (one-named (counters.Rule q) (counters.Rule id) false e))
 
-shared-hit : (o : Option SharedAction) (bytes : ℕ) → IsSome o
-    → count_of_shared (option_map (λ (e : SharedAction). record e { count = counted e.count bytes }) o) ≡ counted_more (count_of_shared o) 1 bytes
+-- one frame more, of so many bytes
+abbrev hit : ℕ → SharedAction → SharedAction
+hit bytes e = record e { count = counted e.count bytes }
+
+shared-hit : (o : Option SharedAction) (bytes : ℕ) → IsSome o → count_of_shared (option_map (hit bytes) o) ≡ counted_more (count_of_shared o) 1 bytes
 shared-hit None bytes there = cc
 shared-hit (Some entry) bytes there = sym (counted_more-one entry.count bytes)
 
-stands-hit : (id bytes q : ℕ) (shared : Entries)
-    → entry_at q (raised id bytes shared) ≡ cond (nat_eq q id) (option_map (λ (x : SharedAction). record x { count = counted x.count bytes }) (entry_at q shared)) (entry_at q shared)
-stands-hit id bytes q shared = entry_at-changed_at id (λ (x : SharedAction). record x { count = counted x.count bytes }) q shared
+stands-hit : (id bytes q : ℕ) (shared : Entries) → entry_at q (raised id bytes shared) ≡ cond (nat_eq q id) (option_map (hit bytes) (entry_at q shared)) (entry_at q shared)
+stands-hit id bytes q shared = entry_at-changed_at id (hit bytes) q shared
 
-pub Raises-shared : (id bytes : ℕ) (list : List InEffect) (shared : Entries) → IsSome (entry_at id shared)
+used-hit : (b : Bool) (bytes : ℕ) (o : Option SharedAction) → is_some (cond b (option_map (hit bytes) o) o) ≡ is_some o
+used-hit true bytes None = refl
+used-hit true bytes (Some e) = refl
+used-hit false bytes o = refl
+
+-- what is in effect at an id is counted, and what is held isn't
+in_effect-hit : (b : Bool) (bytes : ℕ) (o : Option SharedAction) → if_in_effect (cond b (option_map (hit bytes) o) o) ≡ cond b (option_map (hit bytes) (if_in_effect o)) (if_in_effect o)
+in_effect-hit false bytes o = refl
+in_effect-hit true bytes None = refl
+in_effect-hit true bytes (Some e) = by e.held where
+  by : (h : Bool) → cond h None (Some (hit bytes e)) ≡ option_map (hit bytes) (cond h None (Some e))
+  by true = refl
+  by false = refl
+
+counts-hit : (id bytes q : ℕ) (shared : Entries) → in_effect_at q (raised id bytes shared) ≡ cond (nat_eq q id) (option_map (hit bytes) (in_effect_at q shared)) (in_effect_at q shared)
+counts-hit id bytes q shared = ap if_in_effect (stands-hit id bytes q shared) ∙ in_effect-hit (nat_eq q id) bytes (entry_at q shared)
+
+held-hit : (id bytes q : ℕ) (shared : Entries) (value : Action) → IsSome (in_effect_at id shared) → entry_at q shared ≡ Some (created value true) → entry_at q (raised id bytes shared) ≡ Some (created value true)
+held-hit id bytes q shared value there is = stands-hit id bytes q shared ∙ by (nat_eq q id) refl where
+  by : (b : Bool) → nat_eq q id ≡ b → cond b (option_map (hit bytes) (entry_at q shared)) (entry_at q shared) ≡ Some (created value true)
+  by true same = absurd (not-some (subst (λ (o : Option SharedAction). IsSome (if_in_effect o)) (ap (λ k. entry_at k shared) (sym (eqb-true q id same)) ∙ is) there)) where
+    not-some : IsSome (if_in_effect (Some (created value true))) → ⊥
+    not-some none = cc
+  by false other = is
+
+pub Raises-shared : (id bytes : ℕ) (list : List InEffect) (shared : Entries) → IsSome (in_effect_at id shared)
     → Raises list shared list (raised id bytes shared) (counters.Shared id ∷ []) bytes
 Raises-shared id bytes list shared there = record {
   rules_same = refl;
-  values_same = values-changed_at id (λ e. record e { count = counted e.count bytes }) (λ e. refl) (λ e. refl) shared;
-  in_effect = λ all. All-changed_at (λ (x : ℕ × SharedAction). x.1.held ≡ false) id (λ e. record e { count = counted e.count bytes }) (λ k e held. held) shared all;
-  on_port = λ rxq all. AreOn-changed_at rxq id (λ e. record e { count = counted e.count bytes }) (λ e. refl) shared all;
+  values_same = values-changed_at id (hit bytes) (λ e. refl) (λ e. refl) shared;
+  used = λ q. ap (λ (o : Option SharedAction). is_some o) (stands-hit id bytes q shared) ∙ used-hit (nat_eq q id) bytes (entry_at q shared);
+  number = length-changed_at id (hit bytes) shared;
+  held = λ q value is. held-hit id bytes q shared value there is;
+  on_port = λ rxq all. AreOn-changed_at rxq id (hit bytes) (λ e. refl) shared all;
   counts = counts;
 } where
   counts : (c : Counter) → count_kept list (raised id bytes shared) c ≡ counted_more (count_kept list shared c) (count_by (is_counter c) (counters.Shared id ∷ [])) bytes
@@ -141,13 +182,13 @@ Raises-shared id bytes list shared there = record {
     by : (b : Bool) → nat_eq q id ≡ b
         → count_kept list (raised id bytes shared) (counters.Shared q) ≡ counted_more (count_kept list shared (counters.Shared q)) (count_by (is_counter (counters.Shared q)) (counters.Shared id ∷ [])) bytes
     by true e =
-        ap count_of_shared (stands-hit id bytes q shared ∙ ap (λ b. cond b (option_map (λ (x : SharedAction). record x { count = counted x.count bytes }) (entry_at q shared)) (entry_at q shared)) e)
-        ∙ shared-hit (entry_at q shared) bytes (subst (λ k. IsSome (entry_at k shared)) (sym (eqb-true q id e)) there)
-        ∙ ap (λ k. counted_more (count_of_shared (entry_at q shared)) k bytes) (sym (one-named (counters.Shared q) (counters.Shared id) true e))
+        ap count_of_shared (counts-hit id bytes q shared ∙ ap (λ b. cond b (option_map (hit bytes) (in_effect_at q shared)) (in_effect_at q shared)) e)
+        ∙ shared-hit (in_effect_at q shared) bytes (subst (λ k. IsSome (in_effect_at k shared)) (sym (eqb-true q id e)) there)
+        ∙ ap (λ k. counted_more (count_of_shared (in_effect_at q shared)) k bytes) (sym (one-named (counters.Shared q) (counters.Shared id) true e))
     by false e =
-        ap count_of_shared (stands-hit id bytes q shared ∙ ap (λ b. cond b (option_map (λ (x : SharedAction). record x { count = counted x.count bytes }) (entry_at q shared)) (entry_at q shared)) e)
-        ∙ sym (counted_more-none (count_of_shared (entry_at q shared)) bytes)
-        ∙ ap (λ k. counted_more (count_of_shared (entry_at q shared)) k bytes) (sym (one-named (counters.Shared q) (counters.Shared id) false e))
+        ap count_of_shared (counts-hit id bytes q shared ∙ ap (λ b. cond b (option_map (hit bytes) (in_effect_at q shared)) (in_effect_at q shared)) e)
+        ∙ sym (counted_more-none (count_of_shared (in_effect_at q shared)) bytes)
+        ∙ ap (λ k. counted_more (count_of_shared (in_effect_at q shared)) k bytes) (sym (one-named (counters.Shared q) (counters.Shared id) false e))
 
 -- counting leaves the rules
 pub placed-raised : (id bytes : ℕ) (list : List InEffect) → map placed (rules.raised id bytes list) ≡ map placed list
@@ -157,13 +198,6 @@ placed-raised id bytes (entry ∷ list) = by (has_id id entry.rule) (placed-rais
       → placed (cond b (rules.with_hit bytes entry) entry) ∷ map placed (rules.raised id bytes list) ≡ placed entry ∷ map placed list
   by true behind = ap (λ rs. placed entry ∷ rs) behind
   by false behind = ap (λ rs. placed entry ∷ rs) behind
-
--- what is in effect stands there
-pub in_effect-there : (id : ℕ) (shared : Entries) → IsSome (in_effect_at id shared) → IsSome (entry_at id shared)
-in_effect-there id shared there = by (entry_at id shared) there where
-  by : (o : Option SharedAction) → IsSome (if_in_effect o) → IsSome o
-  by None none = none
-  by (Some e) some = refl
 
 -- one action more
 pub namings_up-more : (shared : Shared) (o : Option RuleView) (n : ℕ) → n < length (actions_in o) → namings_up shared o (n + 1) ≡ namings_up shared o n ++ naming_at shared o n
@@ -226,3 +260,21 @@ path-more r r' s s' names bytes raises path n below =
     ∙ ap (λ (ns : List Counter). flat_map f (take n path) ++ ns) (sym (append-nil (f id)))
     ∙ sym (flat_map-append f (take n path) (id ∷ []))
     ∙ ap (flat_map f) (sym (take_more path n 0 below))
+
+-- what is held stays
+held-in : (templates : TemplatesView) (s s' : Entries) → ((id : ℕ) (value : Action) → entry_at id s ≡ Some (created value true) → entry_at id s' ≡ Some (created value true))
+    → (op : Held) → IsHeldIn templates s op → IsHeldIn templates s' op
+held-in templates s s' same (held.RuleCreated rule table) is = is
+held-in templates s s' same (held.RuleDestroyed id) is = is
+held-in templates s s' same (held.SharedCreated id value) is = same id value is
+held-in templates s s' same (held.SharedUpdated id value) is = is
+held-in templates s s' same (held.SharedDestroyed id) is = is
+
+pub AreKeptFor-raised : (r r' : List InEffect) (s s' : Entries) (names : List Counter) (bytes : ℕ) → Raises r s r' s' names bytes
+    → (ids : ℕ) (templates : TemplatesView) (ops : List Held) → AreKeptFor ids templates s ops → AreKeptFor ids templates s' ops
+AreKeptFor-raised r r' s s' names bytes raises ids templates ops kept = record {
+  tables = kept.tables;
+  each = All-weaker (IsHeldIn templates s) (IsHeldIn templates s') (held-in templates s s' raises.held) ops kept.each;
+  used = λ id. raises.used id ∙ kept.used id ∙ ap (λ (vs : Shared). is_some (shared_at id vs) || nat_lt 0 (count_by (is_held_shared id) ops)) (sym raises.values_same);
+  number = raises.number ∙ kept.number ∙ ap (λ (vs : Shared). length vs + count_by is_shared_creation ops) (sym raises.values_same);
+}

@@ -9,7 +9,7 @@ use Rattle.flow_rules.specs.Naming.{rule_at}
 use Rattle.rules_in_effect.specs.declared.in_effect.InEffect.{InEffect}
 use Rattle.rules_in_effect.specs.Entries as rules
 use Rattle.rules_in_effect.proofs.Distinct.{rule_at-entry}
-use Rattle.port_state.specs.State.{Placed, rule_in, is_plain, is_plain_of}
+use Rattle.port_state.specs.State.{Placed, rule_in, is_plain, is_plain_of, is_table_rule_of}
 use Rattle.port_state.specs.KeptState.{placed}
 
 pub rules-placed : (list : List InEffect) → map rule_in (map placed list) ≡ map rules.rule_in list
@@ -34,21 +34,38 @@ without-placed id (entry ∷ list) = by (has_id id entry.rule) (without-placed i
   by true behind = behind
   by false behind = ap (λ rs. placed entry ∷ rs) behind
 
--- a rule without a table, of an id that no other has
-abbrev pub is_plain_entry : Option InEffect → Bool
-is_plain_entry None = false
-is_plain_entry (Some entry) = is_none entry.table
+-- a rule of an id that no other has, with such a table
+abbrev pub passes : (Option ℕ → Bool) → Option InEffect → Bool
+passes test None = false
+passes test (Some entry) = test entry.table
 
 or_nothing : (b : Bool) → (b || false) ≡ b
 or_nothing true = refl
 or_nothing false = refl
 
-pub plain-found : (id : ℕ) (list : List InEffect) → rules.AreDistinct list → list_any (is_plain_of id) (map placed list) ≡ is_plain_entry (rules.entry_at id list)
-plain-found id [] distinct = refl
-plain-found id (entry ∷ list) distinct = by (nat_eq entry.rule.id id) refl (plain-found id list distinct.1) where
-  by : (b : Bool) → nat_eq entry.rule.id id ≡ b → list_any (is_plain_of id) (map placed list) ≡ is_plain_entry (rules.entry_at id list)
-      → ((b && is_none entry.table) || list_any (is_plain_of id) (map placed list)) ≡ is_plain_entry (cond b (Some entry) (rules.entry_at id list))
+pub found-by : (test : Option ℕ → Bool) (id : ℕ) (list : List InEffect) → rules.AreDistinct list
+    → list_any (λ (r : Placed). has_id id r.rule && test r.table) (map placed list) ≡ passes test (rules.entry_at id list)
+found-by test id [] distinct = refl
+found-by test id (entry ∷ list) distinct = by (nat_eq entry.rule.id id) refl (found-by test id list distinct.1) where
+  others : Bool
+  others = list_any (λ (r : Placed). has_id id r.rule && test r.table) (map placed list)
+
+  by : (b : Bool) → nat_eq entry.rule.id id ≡ b → others ≡ passes test (rules.entry_at id list) → ((b && test entry.table) || others) ≡ passes test (cond b (Some entry) (rules.entry_at id list))
   by true same behind =
       let none : rules.entry_at id list ≡ None = ap (λ k. rules.entry_at k list) (sym (eqb-true entry.rule.id id same)) ∙ distinct.0 in
-      ap (λ b. is_none entry.table || b) (behind ∙ ap is_plain_entry none) ∙ or_nothing (is_none entry.table)
+      ap (λ b. test entry.table || b) (behind ∙ ap (passes test) none) ∙ or_nothing (test entry.table)
   by false other behind = behind
+
+-- one without a table
+abbrev pub is_plain_entry : Option InEffect → Bool
+is_plain_entry o = passes (λ table. is_none table) o
+
+pub plain-found : (id : ℕ) (list : List InEffect) → rules.AreDistinct list → list_any (is_plain_of id) (map placed list) ≡ is_plain_entry (rules.entry_at id list)
+plain-found id list distinct = found-by (λ table. is_none table) id list distinct
+
+-- and one of a table
+abbrev pub is_table_entry : Option InEffect → Bool
+is_table_entry o = passes (λ table. not (is_none table)) o
+
+pub table-found : (id : ℕ) (list : List InEffect) → rules.AreDistinct list → list_any (is_table_rule_of id) (map placed list) ≡ is_table_entry (rules.entry_at id list)
+table-found id list distinct = found-by (λ table. not (is_none table)) id list distinct

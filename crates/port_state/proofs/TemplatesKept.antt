@@ -1,145 +1,216 @@
--- The templates and tables that the code keeps are judged as those of the state are: the slots of a table are as many as its rules.
-use Rattle.std.proofs.Common.{◌≡◌, ℕ, zero, suc, ◌+◌, ◌++◌, ◌||◌, not, nat_lt, nat_le, zero-add, Bool, true, false, cond, nat_eq, map, filter, length, is_some, List, [], ◌∷◌, Option, None, Some, refl, sym, ap, ◌∙◌, subst}
-use Rattle.std.specs.List.{list_any, count_by}
-use Rattle.std.specs.Map.{lookup, remove_entry, values_of}
+-- Templates and tables as they are made, and as they go.
+use Rattle.std.proofs.Common.{◌≡◌, ℕ, ◌+◌, ◌++◌, not, nat_lt, is_some, Bool, true, false, cond, nat_eq, map, length, List, [], ◌∷◌, Option, None, Some, refl, sym, ap, ◌∙◌, subst, arith, zero-add}
+use Rattle.std.specs.List.{All, IsDistinct, count_by}
+use Rattle.std.specs.Map.{keys_of, lookup, remove_entry}
 use Rattle.std.specs.Prelude.{Result, Ok, Err, OnOk, OnErr}
 use Rattle.std.specs.Result.{result_err}
-use Rattle.std.proofs.lemmas.List.{map-append, length-map}
-use Rattle.std.proofs.lemmas.List.Sums.{sum_by-cons, length-filter}
-use Rattle.std.proofs.lemmas.List.Elements.{All-nil, All-cons, All-head, All-tail, All-append, All-filter}
-use Rattle.flow_rules.specs.declared.fault.Fault.{Fault}
+use Rattle.std.proofs.lemmas.Bool.{eqb-true, eq-eqb, ltb-false}
+use Rattle.std.proofs.lemmas.List.{map-append}
+use Rattle.std.proofs.lemmas.Map.{lookup-remove_entry}
+use Rattle.std.proofs.lemmas.Map.Keys.{IsDistinct-push, IsDistinct-head, IsDistinct-tail, IsDistinct-cons}
+use Rattle.std.proofs.lemmas.Map.Made.{is_some-lookup}
+use Rattle.std.specs.List.{AllByRecursion}
+use Rattle.std.proofs.lemmas.Cmp.{nat_eq_equiv}
+use Rattle.std.proofs.lemmas.List.Elements.{All-nil, All-cons, All-head, All-tail}
+use Rattle.flow_rules.specs.RuleView.{RuleView}
 use Rattle.flow_rules.specs.declared.fault.Cause.TheVariants as causes
 use Rattle.flow_rules.specs.declared.spec.Attr.{Attr}
-use Rattle.flow_rules.specs.Faults.{fault_if, first, attr_faults}
-use Rattle.flow_rules.specs.Changes.{has_id}
-use Rattle.rules_in_effect.specs.declared.in_effect.InEffect.{InEffect}
-use Rattle.object_ids.specs.Ids.{is_used, is_taken, unused_from, id_for, id_faults}
+use Rattle.flow_rules.specs.Faults.{fault_if, first}
+use Rattle.object_ids.specs.Ids.{id_for}
+use Rattle.indirect_counters.specs.Entries.{Entries, values_in_effect}
+use Rattle.template_tables.specs.Refusals.{is_busy, table_end_refusals}
+use Rattle.template_tables.specs.Slots.{IsAbove}
 use Rattle.template_tables.specs.TableView.{TableView, empty_table}
-use Rattle.template_tables.specs.TemplatesView.{TemplatesView}
-use Rattle.template_tables.specs.Refusals.{rules_of, is_out_of_range, is_any_missing, names_pattern, names_actions, is_busy, table_refusals, pattern_end_refusals, actions_end_refusals, table_end_refusals}
-use Rattle.port_state.specs.Tables.{Table, Templates, table_made, table_gone}
-use Rattle.indirect_counters.specs.Entries.{values_in_effect}
-use Rattle.port_state.specs.State.{State, Placed, stands_in, is_table, slot_of, table_in, templates_in, with_templates}
-use Rattle.port_state.specs.KeptState.{KeptState, placed, plan_of, plans_of, state_in}
+use Rattle.template_tables.specs.TemplatesView.{TemplatesView, table_of}
+use Rattle.port_state.specs.declared.held.Held.{Held}
+use Rattle.port_state.specs.declared.held.Held.TheVariants as held
 use Rattle.port_state.specs.declared.state.State.TheInside.{Inside}
-use Rattle.port_state.specs.StateInside.{state_kept, AreOutside, HaveSlots}
+use Rattle.port_state.specs.Kept.{is_held_in, is_reserved, IsGiven, IsReserved, IsReservedFor, HasReserved, IsHeldIn, AreKeptFor}
+use Rattle.port_state.specs.KeptState.{KeptState, placed, plan_of, plans_of, state_in}
+use Rattle.port_state.specs.State.{Placed, stands_in, with_templates}
+use Rattle.port_state.specs.StateInside.{state_kept, HasSettled, HaveSettled, IsSettled, IsSettledAt, IsSettledIn}
+use Rattle.port_state.specs.Tables.{Table, Templates, table_made, table_gone}
+use Rattle.port_state.proofs.Parts.{with_parts}
+use Rattle.port_state.proofs.Slots.{lookup-last, lookup-pushed, lookup-removed}
 
--- a table in its list, as it is judged by
-abbrev pub seen : List Placed → List (ℕ × TableView) → List (ℕ × TableView)
-seen rules tables = map (table_in rules) (map plan_of tables)
+pub at-ok : {T E : Type 0} (r : Result T E) (P : Type 0) → result_err r ≡ None → OnOk r P → P
+at-ok (Ok x) P none p = p
+at-ok (Err e) P none p = cc
 
--- two lists of objects with the same ids
-module _ {A B : Type 0} (es : List (ℕ × A)) (os : List (ℕ × B)) (same : (q : ℕ) → is_used q os ≡ is_used q es) (many : length os ≡ length es) where
-  unused-same : (more k : ℕ) → unused_from more k os ≡ unused_from more k es
-  unused-same zero k = refl
-  unused-same (suc more) k = ap (λ b. cond b (unused_from more (k + 1) os) k) (same k) ∙ ap (λ n. cond (is_used k es) n k) (unused-same more (k + 1))
+pub on-ok : {T E : Type 0} (r : Result T E) (P : Type 0) → P → OnOk r P
+on-ok (Ok x) P p = p
+on-ok (Err e) P p = tt
 
-  pub id_for-same : (id : Option ℕ) → id_for id os ≡ id_for id es
-  id_for-same (Some id) = refl
-  id_for-same None = unused-same (length os) 0 ∙ ap (λ n. unused_from n 0 es) many
+-- a state with other templates and tables
+pub changed : (s : Inside) (old : KeptState) (new : TemplatesView) (change : Templates → Templates) → state_kept s ≡ old → plans_of new ≡ change (plans_of s.templates)
+    → with_parts s (map placed s.rules.list) (values_in_effect s.shared.entries) (plans_of new) ≡ with_templates change (state_in old)
+changed s old new change same plans =
+    ap (with_parts s (map placed s.rules.list) (values_in_effect s.shared.entries)) plans ∙ ap (λ (k : KeptState). with_templates change (state_in k)) same
 
-  taken-same : (id : Option ℕ) → is_taken id os ≡ is_taken id es
-  taken-same None = refl
-  taken-same (Some id) = same id
+-- one goes that may go
+pub gone : {E : Type 0} (s : Inside) (old : KeptState) (r : Result Unit E) (new without' : TemplatesView) (change : Templates → Templates) → state_kept s ≡ old → result_err r ≡ None
+    → OnOk r (new ≡ without') → plans_of without' ≡ change (plans_of s.templates)
+    → with_parts s (map placed s.rules.list) (values_in_effect s.shared.entries) (plans_of new) ≡ with_templates change (state_in old)
+gone s old r new without' change same none is plans = changed s old new change same (ap plans_of (at-ok r _ none is) ∙ plans)
 
-  pub id_faults-same : (id : Option ℕ) → id_faults 64 id os ≡ id_faults 64 id es
-  id_faults-same id =
-      ap (λ b. fault_if b causes.IdInUse 0 ++ fault_if (nat_le 64 (length os)) causes.TooMany 0) (taken-same id)
-      ∙ ap (λ n. fault_if (is_taken id es) causes.IdInUse 0 ++ fault_if (nat_le 64 n) causes.TooMany 0) many
+-- a lookup behind a new table, and without one
+module _ {X : Type 0} where
+  pub lookup-more : (q : ℕ) (es : List (ℕ × X)) (e : ℕ × X) → nat_eq q e.0 ≡ false → lookup (nat_eq q) (es ++ e ∷ []) ≡ lookup (nat_eq q) es
+  lookup-more q [] e other = ap (λ b. cond b (Some e.1) None) other
+  lookup-more q (f ∷ es) e other = ap (cond (nat_eq q f.0) (Some f.1)) (lookup-more q es e other)
 
-used-plans : (q : ℕ) (tables : List (ℕ × TableView)) → is_used q (map plan_of tables) ≡ is_used q tables
-used-plans q [] = refl
-used-plans q (e ∷ tables) = by (nat_eq q e.0) (used-plans q tables) where
-  by : (b : Bool) → is_used q (map plan_of tables) ≡ is_used q tables
-      → is_some (cond b (Some (plan_of e).1) (lookup (nat_eq q) (map plan_of tables))) ≡ is_some (cond b (Some e.1) (lookup (nat_eq q) tables))
-  by true behind = refl
-  by false behind = behind
+-- a new table
+module _ (id : ℕ) (view : TableView) (t : TemplatesView) (free : table_of id t ≡ None) (empty : view.slots ≡ []) where
+  new_tables : TemplatesView
+  new_tables = record { patterns = t.patterns; actions = t.actions; tables = t.tables ++ (id, view) ∷ [] }
 
-used-seen : (rules : List Placed) (q : ℕ) (tables : List (ℕ × TableView)) → is_used q (seen rules tables) ≡ is_used q tables
-used-seen rules q [] = refl
-used-seen rules q (e ∷ tables) = by (nat_eq q e.0) (used-seen rules q tables) where
-  by : (b : Bool) → is_used q (seen rules tables) ≡ is_used q tables
-      → is_some (cond b (Some (table_in rules (plan_of e)).1) (lookup (nat_eq q) (seen rules tables))) ≡ is_some (cond b (Some e.1) (lookup (nat_eq q) tables))
-  by true behind = refl
-  by false behind = behind
+  table_of-new : (q : ℕ) → table_of q (record { patterns = t.patterns; actions = t.actions; tables = t.tables ++ (id, view) ∷ [] }) ≡ cond (nat_eq q id) (Some view) (table_of q t)
+  table_of-new q = by (nat_eq q id) refl where
+    by : (b : Bool) → nat_eq q id ≡ b → lookup (nat_eq q) (t.tables ++ (id, view) ∷ []) ≡ cond b (Some view) (table_of q t)
+    by true same = subst (λ k. lookup (nat_eq k) (t.tables ++ (id, view) ∷ []) ≡ Some view) (sym (eqb-true q id same)) (lookup-last id t.tables view free)
+    by false other = lookup-more q t.tables (id, view) other
 
-many-seen : (rules : List Placed) (tables : List (ℕ × TableView)) → length (seen rules tables) ≡ length tables
-many-seen rules [] = refl
-many-seen rules (e ∷ tables) = ap suc (many-seen rules tables)
+  pub made-settled : (rules : List Placed) → All (IsSettled t) rules → All (IsSettled (record { patterns = t.patterns; actions = t.actions; tables = t.tables ++ (id, view) ∷ [] })) rules
+  made-settled [] all = All-nil (IsSettled (record { patterns = t.patterns; actions = t.actions; tables = t.tables ++ (id, view) ∷ [] }))
+  made-settled (r ∷ rules) all =
+      All-cons (IsSettled (record { patterns = t.patterns; actions = t.actions; tables = t.tables ++ (id, view) ∷ [] })) r rules
+      (at r r.table (All-head (IsSettled t) r rules all)) (made-settled rules (All-tail (IsSettled t) r rules all)) where
+        found : (rule : RuleView) (k : ℕ) (o : Option TableView) → table_of k t ≡ o → IsSettledIn rule o
+            → IsSettledIn rule (table_of k (record { patterns = t.patterns; actions = t.actions; tables = t.tables ++ (id, view) ∷ [] }))
+        found rule k None is none = absurd none
+        found rule k (Some table) is settled = subst (IsSettledIn rule) (sym (lookup-pushed k t.tables (id, view) table is)) settled
 
-many-plans : (tables : List (ℕ × TableView)) → length (map plan_of tables) ≡ length tables
-many-plans [] = refl
-many-plans (e ∷ tables) = ap suc (many-plans tables)
+        at : (x : Placed) (o : Option ℕ) → IsSettledAt t x.rule o → IsSettledAt (record { patterns = t.patterns; actions = t.actions; tables = t.tables ++ (id, view) ∷ [] }) x.rule o
+        at x None is = tt
+        at x (Some k) is = found x.rule k (table_of k t) refl is
 
-rules_of-seen : (rules : List Placed) (tables : List (ℕ × TableView)) → rules_of (values_of (seen rules tables)) ≡ rules_of (values_of tables)
-rules_of-seen rules [] = refl
-rules_of-seen rules (e ∷ tables) =
-    sum_by-cons (λ (t : TableView). t.rules_number) (table_in rules (plan_of e)).1 (values_of (seen rules tables))
-    ∙ ap (λ n. e.1.rules_number + n) (rules_of-seen rules tables) ∙ sym (sum_by-cons (λ (t : TableView). t.rules_number) e.1 (values_of tables))
+  pub made-slots : (rules : List Placed) → HaveSettled rules t → HaveSettled rules (record { patterns = t.patterns; actions = t.actions; tables = t.tables ++ (id, view) ∷ [] })
+  made-slots rules have q = subst (HasSettled rules q) (sym (table_of-new q)) (by (nat_eq q id) refl) where
+    none : count_by (stands_in id) rules ≡ 0
+    none = subst (HasSettled rules id) free (have id)
 
-patterns-seen : (rules : List Placed) (id : ℕ) (tables : List (ℕ × TableView)) → list_any (names_pattern id) (values_of (seen rules tables)) ≡ list_any (names_pattern id) (values_of tables)
-patterns-seen rules id [] = refl
-patterns-seen rules id (e ∷ tables) = ap (λ b. names_pattern id e.1 || b) (patterns-seen rules id tables)
+    by : (b : Bool) → nat_eq q id ≡ b → HasSettled rules q (cond b (Some view) (table_of q t))
+    by true same = subst (λ k. HasSettled rules k (Some view)) (sym (eqb-true q id same)) (ap length empty ∙ sym (ap (λ n. n + count_by is_reserved view.slots) none ∙ zero-add _ ∙ ap (count_by is_reserved) empty))
+    by false other = have q
 
-actions-seen : (rules : List Placed) (id : ℕ) (tables : List (ℕ × TableView)) → list_any (names_actions id) (values_of (seen rules tables)) ≡ list_any (names_actions id) (values_of tables)
-actions-seen rules id [] = refl
-actions-seen rules id (e ∷ tables) = ap (λ b. names_actions id e.1 || b) (actions-seen rules id tables)
+  pub made-kept : (ids : ℕ) (shared : Entries) (ops : List Held) → view.greatest ≡ None → AreKeptFor ids t shared ops
+      → AreKeptFor ids (record { patterns = t.patterns; actions = t.actions; tables = t.tables ++ (id, view) ∷ [] }) shared ops
+  made-kept ids shared ops fresh kept = record { tables = tables; each = each ops kept.each; used = kept.used; number = kept.number } where
+    none : count_by (is_held_in id) ops ≡ 0
+    none = subst (HasReserved ids ops id) free (kept.tables id)
 
--- a table's slots are as many as it has rules in effect
-busy-seen : (rules : List Placed) (id : ℕ) (tables : List (ℕ × TableView)) → HaveSlots rules tables
-    → is_busy (lookup (nat_eq id) (seen rules tables)) ≡ is_busy (lookup (nat_eq id) tables)
-busy-seen rules id [] slots = refl
-busy-seen rules id (e ∷ tables) slots =
-    by (nat_eq id e.0) (busy-seen rules id tables (All-tail (λ (x : ℕ × TableView). length x.1.slots ≡ count_by (stands_in x.0) rules) e tables slots)) where
-      number : length (map slot_of (filter (stands_in e.0) rules)) ≡ length e.1.slots
-      number = length-map (filter (stands_in e.0) rules) slot_of ∙ length-filter (stands_in e.0) rules
-          ∙ sym (All-head (λ (x : ℕ × TableView). length x.1.slots ≡ count_by (stands_in x.0) rules) e tables slots)
+    tables : (q : ℕ) → HasReserved ids ops q (table_of q (record { patterns = t.patterns; actions = t.actions; tables = t.tables ++ (id, view) ∷ [] }))
+    tables q = subst (HasReserved ids ops q) (sym (table_of-new q)) (by (nat_eq q id) refl) where
+      here : IsReservedFor ids id ops view
+      here = record {
+        number = ap (count_by is_reserved) empty ∙ sym none;
+        given = subst (All (IsGiven ids)) (sym empty) (All-nil (IsGiven ids));
+        above = subst (IsAbove ids) (sym fresh) tt;
+      }
 
-      by : (b : Bool) → is_busy (lookup (nat_eq id) (seen rules tables)) ≡ is_busy (lookup (nat_eq id) tables)
-          → is_busy (cond b (Some (table_in rules (plan_of e)).1) (lookup (nat_eq id) (seen rules tables))) ≡ is_busy (cond b (Some e.1) (lookup (nat_eq id) tables))
-      by true behind = ap (nat_lt 0) number
-      by false behind = behind
+      by : (b : Bool) → nat_eq q id ≡ b → HasReserved ids ops q (cond b (Some view) (table_of q t))
+      by true same = subst (λ k. IsReservedFor ids k ops view) (sym (eqb-true q id same)) here
+      by false other = kept.tables q
 
--- templates and tables as they are judged by
-abbrev pub seen_all : List Placed → TemplatesView → TemplatesView
-seen_all rules t = record { patterns = t.patterns; actions = t.actions; tables = seen rules t.tables }
+    found : (rule : RuleView) (k : ℕ) (o : Option TableView) → table_of k t ≡ o → IsReserved rule.id o
+        → IsReserved rule.id (table_of k (record { patterns = t.patterns; actions = t.actions; tables = t.tables ++ (id, view) ∷ [] }))
+    found rule k None is bad = absurd bad
+    found rule k (Some table) is reserved = subst (IsReserved rule.id) (sym (lookup-pushed k t.tables (id, view) table is)) reserved
 
-pub table-refusals : (rules : List Placed) (t : TemplatesView) (id : Option ℕ) (attr : Attr) (n : ℕ) (patterns actions : List ℕ)
-    → table_refusals t id attr n patterns actions ≡ table_refusals (seen_all rules t) id attr n patterns actions
-table-refusals rules t id attr n patterns actions =
-    let by_parts : ℕ → List Fault → List Fault
-    = λ others ids. attr_faults attr
-    ++ (fault_if (is_out_of_range n others) causes.RulesNumber 0
-    ++ (fault_if (is_any_missing t.patterns patterns) causes.NoObject 0 ++ (fault_if (is_any_missing t.actions actions) causes.NoObject 0 ++ ids))) in
-    ap (λ k. by_parts k (id_faults 64 id t.tables)) (sym (rules_of-seen rules t.tables))
-    ∙ ap (by_parts (rules_of (values_of (seen rules t.tables)))) (sym (id_faults-same t.tables (seen rules t.tables) (λ q. used-seen rules q t.tables) (many-seen rules t.tables) id))
+    at : (op : Held) → IsHeldIn t shared op → IsHeldIn (record { patterns = t.patterns; actions = t.actions; tables = t.tables ++ (id, view) ∷ [] }) shared op
+    at (held.RuleCreated rule k) is = found rule k (table_of k t) refl is
+    at (held.RuleDestroyed q) is = tt
+    at (held.SharedCreated q value) is = is
+    at (held.SharedUpdated q value) is = tt
+    at (held.SharedDestroyed q) is = tt
 
-pub pattern-end : (rules : List Placed) (t : TemplatesView) (id : ℕ) → pattern_end_refusals t id ≡ pattern_end_refusals (seen_all rules t) id
-pattern-end rules t id = ap (λ b. fault_if (not (is_used id t.patterns)) causes.NoObject 0 ++ fault_if b causes.Busy 0) (sym (patterns-seen rules id t.tables))
+    each : (xs : List Held) → All (IsHeldIn t shared) xs → All (IsHeldIn (record { patterns = t.patterns; actions = t.actions; tables = t.tables ++ (id, view) ∷ [] }) shared) xs
+    each [] all = All-nil (IsHeldIn (record { patterns = t.patterns; actions = t.actions; tables = t.tables ++ (id, view) ∷ [] }) shared)
+    each (x ∷ xs) all =
+        All-cons (IsHeldIn (record { patterns = t.patterns; actions = t.actions; tables = t.tables ++ (id, view) ∷ [] }) shared) x xs
+        (at x (All-head (IsHeldIn t shared) x xs all)) (each xs (All-tail (IsHeldIn t shared) x xs all))
 
-pub actions-end : (rules : List Placed) (t : TemplatesView) (id : ℕ) → actions_end_refusals t id ≡ actions_end_refusals (seen_all rules t) id
-actions-end rules t id = ap (λ b. fault_if (not (is_used id t.actions)) causes.NoObject 0 ++ fault_if b causes.Busy 0) (sym (actions-seen rules id t.tables))
+-- a lookup behind one that is gone
+lookup-gone : {X : Type 0} (id : ℕ) (es : List (ℕ × X)) → IsDistinct nat_eq (keys_of es) → lookup (nat_eq id) (remove_entry (nat_eq id) es) ≡ None
+lookup-gone id es distinct =
+    lookup-remove_entry nat_eq_equiv (nat_eq id) (λ x y same. ap (λ k. nat_eq k y) (eqb-true id x same)) id es distinct
+    ∙ ap (λ b. cond b None (lookup (nat_eq id) es)) (eq-eqb id id refl)
 
-pub table-end : (rules : List Placed) (t : TemplatesView) (id : ℕ) → HaveSlots rules t.tables → table_end_refusals t id ≡ table_end_refusals (seen_all rules t) id
-table-end rules t id slots =
-    ap (λ b. fault_if (not b) causes.NoObject 0 ++ fault_if (is_busy (lookup (nat_eq id) t.tables)) causes.Busy 0) (sym (used-seen rules id t.tables))
-    ∙ ap (λ b. fault_if (not (is_used id (seen rules t.tables))) causes.NoObject 0 ++ fault_if b causes.Busy 0) (sym (busy-seen rules id t.tables slots))
+-- a table without slots goes
+module _ (id : ℕ) (view : TableView) (t : TemplatesView) (is : table_of id t ≡ Some view) (empty : view.slots ≡ []) (distinct : IsDistinct nat_eq (keys_of t.tables)) where
+  table_of-gone : (q : ℕ) → table_of q (record { patterns = t.patterns; actions = t.actions; tables = remove_entry (nat_eq id) t.tables }) ≡ cond (nat_eq q id) None (table_of q t)
+  table_of-gone q = by (nat_eq q id) refl where
+    by : (b : Bool) → nat_eq q id ≡ b → lookup (nat_eq q) (remove_entry (nat_eq id) t.tables) ≡ cond b None (table_of q t)
+    by true same = subst (λ k. lookup (nat_eq k) (remove_entry (nat_eq id) t.tables) ≡ None) (sym (eqb-true q id same)) (lookup-gone id t.tables distinct)
+    by false other = lookup-removed id q t.tables other
 
--- the id of a new table, by the tables of the state and by those that are kept
-pub id_for-plans : (tables : List (ℕ × TableView)) (id : Option ℕ) → id_for id (map plan_of tables) ≡ id_for id tables
-id_for-plans tables id = id_for-same tables (map plan_of tables) (λ q. used-plans q tables) (many-plans tables) id
+  -- nothing is found in it
+  nothing : {X : Type 0} (q : ℕ) (o : Option RuleView) → lookup (nat_eq q) view.slots ≡ Some o → X
+  nothing q o found = none (sym (ap (lookup (nat_eq q)) empty) ∙ found) where
+    none : {X : Type 0} → None ≡ Some o → X
+    none bad = cc
 
--- a table is made
-pub plans-made : (t : TemplatesView) (id : Option ℕ) (attr : Attr) (n : ℕ) (patterns actions : List ℕ)
+  gone-at : (rule : RuleView) (k : ℕ) (b : Bool) → nat_eq k id ≡ b → IsSettledIn rule (table_of k t) → IsSettledIn rule (cond b None (table_of k t))
+  gone-at rule k true same settled = nothing rule.id (Some rule) (subst (λ o. IsSettledIn rule o) is (subst (λ j. IsSettledIn rule (table_of j t)) (eqb-true k id same) settled))
+  gone-at rule k false other settled = settled
+
+  pub gone-settled : (rules : List Placed) → All (IsSettled t) rules → All (IsSettled (record { patterns = t.patterns; actions = t.actions; tables = remove_entry (nat_eq id) t.tables })) rules
+  gone-settled [] all = All-nil (IsSettled (record { patterns = t.patterns; actions = t.actions; tables = remove_entry (nat_eq id) t.tables }))
+  gone-settled (r ∷ rules) all =
+      All-cons (IsSettled (record { patterns = t.patterns; actions = t.actions; tables = remove_entry (nat_eq id) t.tables })) r rules
+      (at r r.table (All-head (IsSettled t) r rules all)) (gone-settled rules (All-tail (IsSettled t) r rules all)) where
+        at : (x : Placed) (o : Option ℕ) → IsSettledAt t x.rule o → IsSettledAt (record { patterns = t.patterns; actions = t.actions; tables = remove_entry (nat_eq id) t.tables }) x.rule o
+        at x None settled = tt
+        at x (Some k) settled = subst (IsSettledIn x.rule) (sym (table_of-gone k)) (gone-at x.rule k (nat_eq k id) refl settled)
+
+  pub gone-slots : (rules : List Placed) → HaveSettled rules t → HaveSettled rules (record { patterns = t.patterns; actions = t.actions; tables = remove_entry (nat_eq id) t.tables })
+  gone-slots rules have q = subst (HasSettled rules q) (sym (table_of-gone q)) (by (nat_eq q id) refl) where
+    none : count_by (stands_in id) rules ≡ 0
+    none = omega (arith, subst (HasSettled rules id) is (have id), ap length empty)
+
+    by : (b : Bool) → nat_eq q id ≡ b → HasSettled rules q (cond b None (table_of q t))
+    by true same = subst (λ k. count_by (stands_in k) rules ≡ 0) (sym (eqb-true q id same)) none
+    by false other = have q
+
+  pub gone-kept : (ids : ℕ) (shared : Entries) (ops : List Held) → AreKeptFor ids t shared ops
+      → AreKeptFor ids (record { patterns = t.patterns; actions = t.actions; tables = remove_entry (nat_eq id) t.tables }) shared ops
+  gone-kept ids shared ops kept = record { tables = tables; each = each ops kept.each; used = kept.used; number = kept.number } where
+    none : count_by (is_held_in id) ops ≡ 0
+    none = sym (subst (HasReserved ids ops id) is (kept.tables id)).number ∙ ap (count_by is_reserved) empty
+
+    tables : (q : ℕ) → HasReserved ids ops q (table_of q (record { patterns = t.patterns; actions = t.actions; tables = remove_entry (nat_eq id) t.tables }))
+    tables q = subst (HasReserved ids ops q) (sym (table_of-gone q)) (by (nat_eq q id) refl) where
+      by : (b : Bool) → nat_eq q id ≡ b → HasReserved ids ops q (cond b None (table_of q t))
+      by true same = subst (λ k. count_by (is_held_in k) ops ≡ 0) (sym (eqb-true q id same)) none
+      by false other = kept.tables q
+
+    reserved : (rule : RuleView) (k : ℕ) (b : Bool) → nat_eq k id ≡ b → IsReserved rule.id (table_of k t) → IsReserved rule.id (cond b None (table_of k t))
+    reserved rule k true same found = nothing rule.id None (subst (λ o. IsReserved rule.id o) is (subst (λ j. IsReserved rule.id (table_of j t)) (eqb-true k id same) found))
+    reserved rule k false other found = found
+
+    at : (op : Held) → IsHeldIn t shared op → IsHeldIn (record { patterns = t.patterns; actions = t.actions; tables = remove_entry (nat_eq id) t.tables }) shared op
+    at (held.RuleCreated rule k) found = subst (IsReserved rule.id) (sym (table_of-gone k)) (reserved rule k (nat_eq k id) refl found)
+    at (held.RuleDestroyed q) found = tt
+    at (held.SharedCreated q value) found = found
+    at (held.SharedUpdated q value) found = tt
+    at (held.SharedDestroyed q) found = tt
+
+    each : (xs : List Held) → All (IsHeldIn t shared) xs → All (IsHeldIn (record { patterns = t.patterns; actions = t.actions; tables = remove_entry (nat_eq id) t.tables }) shared) xs
+    each [] all = All-nil (IsHeldIn (record { patterns = t.patterns; actions = t.actions; tables = remove_entry (nat_eq id) t.tables }) shared)
+    each (x ∷ xs) all =
+        All-cons (IsHeldIn (record { patterns = t.patterns; actions = t.actions; tables = remove_entry (nat_eq id) t.tables }) shared) x xs
+        (at x (All-head (IsHeldIn t shared) x xs all)) (each xs (All-tail (IsHeldIn t shared) x xs all))
+
+-- the plans of tables, as one is made and as one goes
+pub plans-made : (t : TemplatesView) (id : Option ℕ) (attr : Attr) (n : ℕ) (patterns actions : List ℕ) → id_for id t.tables ≡ id_for id (map plan_of t.tables)
     → plans_of (record t { tables = t.tables ++ (id_for id t.tables, empty_table attr n patterns actions) ∷ [] })
     ≡ table_made id (record { attr = attr; patterns = patterns; actions = actions; rules_number = n }) (plans_of t)
-plans-made t id attr n patterns actions =
+plans-made t id attr n patterns actions same =
     let with_tables : List (ℕ × Table) → Templates = λ tables. record { patterns = t.patterns; actions = t.actions; tables = tables } in
     let table : Table = record { attr = attr; patterns = patterns; actions = actions; rules_number = n } in
     ap with_tables (map-append plan_of t.tables ((id_for id t.tables, empty_table attr n patterns actions) ∷ []))
-    ∙ ap (λ k. with_tables (map plan_of t.tables ++ (k, table) ∷ [])) (sym (id_for-plans t.tables id))
+    ∙ ap (λ k. with_tables (map plan_of t.tables ++ (k, table) ∷ [])) same
 
--- and one goes
 tables-gone : (id : ℕ) (tables : List (ℕ × TableView)) → map plan_of (remove_entry (nat_eq id) tables) ≡ remove_entry (nat_eq id) (map plan_of tables)
 tables-gone id [] = refl
 tables-gone id (e ∷ tables) = by (nat_eq id e.0) (tables-gone id tables) where
@@ -151,90 +222,49 @@ tables-gone id (e ∷ tables) = by (nat_eq id e.0) (tables-gone id tables) where
 pub plans-gone : (t : TemplatesView) (id : ℕ) → plans_of (record t { tables = remove_entry (nat_eq id) t.tables }) ≡ table_gone id (plans_of t)
 plans-gone t id = ap (λ (tables : List (ℕ × Table)). record { patterns = t.patterns; actions = t.actions; tables = tables }) (tables-gone id t.tables)
 
--- rules outside tables take no slot
-none-there : (id : ℕ) (rules : List Placed) → AreOutside rules → count_by (stands_in id) rules ≡ 0
-none-there id [] all = refl
-none-there id (r ∷ rules) all =
-    sum_by-cons (λ (x : Placed). cond (stands_in id x) 1 0) r rules
-    ∙ ap (λ o. cond (is_table id o) 1 0 + count_by (stands_in id) rules) (All-head (λ (x : Placed). x.table ≡ None) r rules all)
-    ∙ zero-add (count_by (stands_in id) rules) ∙ none-there id rules (All-tail (λ (x : Placed). x.table ≡ None) r rules all)
+-- a table may go where it is there and no slot of it is taken
+pub record MayEnd (id : ℕ) (t : TemplatesView) : Type 0 where
+  pub view : TableView
+  pub is : table_of id t ≡ Some view
+  pub empty : view.slots ≡ []
 
-pub HaveSlots-outside : (old new : List Placed) (tables : List (ℕ × TableView)) → AreOutside old → AreOutside new → HaveSlots old tables → HaveSlots new tables
-HaveSlots-outside old new [] before behind slots = All-nil (λ (x : ℕ × TableView). length x.1.slots ≡ count_by (stands_in x.0) new)
-HaveSlots-outside old new (e ∷ tables) before behind slots =
-    All-cons (λ (x : ℕ × TableView). length x.1.slots ≡ count_by (stands_in x.0) new) e tables
-    (All-head (λ (x : ℕ × TableView). length x.1.slots ≡ count_by (stands_in x.0) old) e tables slots ∙ none-there e.0 old before ∙ sym (none-there e.0 new behind))
-    (HaveSlots-outside old new tables before behind (All-tail (λ (x : ℕ × TableView). length x.1.slots ≡ count_by (stands_in x.0) old) e tables slots))
+pub may-end : (id : ℕ) (t : TemplatesView) → first (table_end_refusals t id) ≡ None → MayEnd id t
+may-end id t due = by (table_of id t) refl due where
+  clear : (b : Bool) → first (fault_if b causes.Busy 0) ≡ None → b ≡ false
+  clear true bad = cc
+  clear false bad = refl
 
--- a new table has no slot taken
-pub HaveSlots-made : (rules : List Placed) (tables : List (ℕ × TableView)) (id : ℕ) (attr : Attr) (n : ℕ) (patterns actions : List ℕ)
-    → AreOutside rules → HaveSlots rules tables → HaveSlots rules (tables ++ (id, empty_table attr n patterns actions) ∷ [])
-HaveSlots-made rules tables id attr n patterns actions outside slots =
-    All-append (λ (x : ℕ × TableView). length x.1.slots ≡ count_by (stands_in x.0) rules) tables ((id, empty_table attr n patterns actions) ∷ []) slots
-    (All-cons (λ (x : ℕ × TableView). length x.1.slots ≡ count_by (stands_in x.0) rules) (id, empty_table attr n patterns actions) [] (sym (none-there id rules outside))
-    (All-nil (λ (x : ℕ × TableView). length x.1.slots ≡ count_by (stands_in x.0) rules)))
+  nothing-in : {A : Type 0} (xs : List A) → length xs ≡ 0 → xs ≡ []
+  nothing-in [] is = refl
+  nothing-in (x ∷ xs) is = absurd (omega (arith, is))
 
-pub HaveSlots-gone : (rules : List Placed) (id : ℕ) (tables : List (ℕ × TableView)) → HaveSlots rules tables → HaveSlots rules (remove_entry (nat_eq id) tables)
-HaveSlots-gone rules id [] slots = slots
-HaveSlots-gone rules id (e ∷ tables) slots =
-    by (nat_eq id e.0) (HaveSlots-gone rules id tables (All-tail (λ (x : ℕ × TableView). length x.1.slots ≡ count_by (stands_in x.0) rules) e tables slots)) where
-      by : (b : Bool) → HaveSlots rules (remove_entry (nat_eq id) tables) → HaveSlots rules (cond b tables (e ∷ remove_entry (nat_eq id) tables))
-      by true behind = All-tail (λ (x : ℕ × TableView). length x.1.slots ≡ count_by (stands_in x.0) rules) e tables slots
-      by false behind = All-cons (λ (x : ℕ × TableView). length x.1.slots ≡ count_by (stands_in x.0) rules) e (remove_entry (nat_eq id) tables)
-          (All-head (λ (x : ℕ × TableView). length x.1.slots ≡ count_by (stands_in x.0) rules) e tables slots) behind
+  none : (xs : List (ℕ × Option RuleView)) → first (fault_if (nat_lt 0 (length xs)) causes.Busy 0) ≡ None → xs ≡ []
+  none xs bad = nothing-in xs (omega (arith, ltb-false 0 (length xs) (clear (nat_lt 0 (length xs)) bad)))
 
--- a rule without a table takes effect
-pub AreOutside-pushed : (list : List InEffect) (entry : InEffect) → entry.table ≡ None → AreOutside (map placed list) → AreOutside (map placed (list ++ entry ∷ []))
-AreOutside-pushed list entry none all =
-    subst AreOutside (sym (map-append placed list (entry ∷ [])))
-    (All-append (λ (x : Placed). x.table ≡ None) (map placed list) (placed entry ∷ []) all
-    (All-cons (λ (x : Placed). x.table ≡ None) (placed entry) [] none (All-nil (λ (x : Placed). x.table ≡ None))))
+  by : (o : Option TableView) → table_of id t ≡ o → first (fault_if (not (is_some o)) causes.NoObject 0 ++ fault_if (is_busy o) causes.Busy 0) ≡ None → MayEnd id t
+  by None is bad = cc
+  by (Some view) is bad = record { view = view; is = is; empty = none view.slots bad }
 
--- and one goes
-pub AreOutside-removed : (id : ℕ) (rules : List Placed) → AreOutside rules → AreOutside (filter (λ (r : Placed). not (has_id id r.rule)) rules)
-AreOutside-removed id rules all = All-filter (λ (r : Placed). not (has_id id r.rule)) (λ (x : Placed). x.table ≡ None) rules all
+-- the ids of tables, as one is made and as one goes
+pub made-tables : (id : ℕ) (view : TableView) (tables : List (ℕ × TableView)) → lookup (nat_eq id) tables ≡ None → IsDistinct nat_eq (keys_of tables) → IsDistinct nat_eq (keys_of (tables ++ (id, view) ∷ []))
+made-tables id view tables free distinct =
+    subst (λ (keys : List ℕ). IsDistinct nat_eq keys) (sym (map-append (λ (e : ℕ × TableView). e.0) tables ((id, view) ∷ [])))
+    (IsDistinct-push nat_eq_equiv (keys_of tables) id distinct (sym (is_some-lookup (nat_eq id) tables) ∙ ap is_some free))
 
--- without an error, what holds at Ok holds
-pub at-ok : {T E : Type 0} (r : Result T E) (P : Type 0) → result_err r ≡ None → OnOk r P → P
-at-ok (Ok x) P none p = p
-at-ok (Err e) P none p = cc
+all-gone : (P : ℕ → Type 0) (id : ℕ) (tables : List (ℕ × TableView)) → AllByRecursion P (keys_of tables) → AllByRecursion P (keys_of (remove_entry (nat_eq id) tables))
+all-gone P id [] all = all
+all-gone P id (e ∷ tables) all = by (nat_eq id e.0) (all-gone P id tables all.1) where
+  by : (b : Bool) → AllByRecursion P (keys_of (remove_entry (nat_eq id) tables)) → AllByRecursion P (keys_of (cond b tables (e ∷ remove_entry (nat_eq id) tables)))
+  by true more = all.1
+  by false more = (all.0, more)
 
--- and what holds anyway, holds at Ok
-pub on-ok : {T E : Type 0} (r : Result T E) (P : Type 0) → P → OnOk r P
-on-ok (Ok x) P p = p
-on-ok (Err e) P p = tt
-
--- what holds at Ok, of an answer that is Ok; and of one that isn't, nothing is asked
-pub at-is : {T E : Type 0} (r : Result T E) (x : T) (P : Type 0) → r ≡ Ok x → OnOk r P → P
-at-is r x P is p = subst (λ s. OnOk s P) is p
-
-pub none-asked : {T E : Type 0} (r : Result T E) (e : E) (P : Type 0) → r ≡ Err e → OnOk r P
-none-asked r e P is = subst (λ s. OnOk s P) (sym is) tt
-
--- slots are right behind a call that makes a table, or leaves all as it was
-pub HaveSlots-either : {T E : Type 0} (r : Result T E) (rules : List Placed) (old made new : TemplatesView) → OnOk r (new ≡ made) → OnErr r (new ≡ old)
-    → HaveSlots rules old.tables → HaveSlots rules made.tables → HaveSlots rules new.tables
-HaveSlots-either (Ok x) rules old made new is stays before behind = subst (λ (t : TemplatesView). HaveSlots rules t.tables) (sym is) behind
-HaveSlots-either (Err e) rules old made new is stays before behind = subst (λ (t : TemplatesView). HaveSlots rules t.tables) (sym stays) before
-
--- what may go by the state, may go by what is kept
-pub pattern-due : (kept old : KeptState) → kept ≡ old → (id : ℕ) → first (pattern_end_refusals (templates_in (state_in old)) id) ≡ None → first (pattern_end_refusals kept.templates id) ≡ None
-pattern-due kept old same id none =
-    ap first (pattern-end (map placed kept.rules) kept.templates id) ∙ ap (λ (k : KeptState). first (pattern_end_refusals (templates_in (state_in k)) id)) same ∙ none
-
-pub actions-due : (kept old : KeptState) → kept ≡ old → (id : ℕ) → first (actions_end_refusals (templates_in (state_in old)) id) ≡ None → first (actions_end_refusals kept.templates id) ≡ None
-actions-due kept old same id none =
-    ap first (actions-end (map placed kept.rules) kept.templates id) ∙ ap (λ (k : KeptState). first (actions_end_refusals (templates_in (state_in k)) id)) same ∙ none
-
-pub table-due : (kept old : KeptState) → kept ≡ old → HaveSlots (map placed kept.rules) kept.templates.tables → (id : ℕ)
-    → first (table_end_refusals (templates_in (state_in old)) id) ≡ None → first (table_end_refusals kept.templates id) ≡ None
-table-due kept old same slots id none =
-    ap first (table-end (map placed kept.rules) kept.templates id slots) ∙ ap (λ (k : KeptState). first (table_end_refusals (templates_in (state_in k)) id)) same ∙ none
-
--- templates and tables change alone
-abbrev with_these : Inside → Templates → State
-with_these s t = record { rules = map placed s.rules.list; shared = values_in_effect s.shared.entries; templates = t; isolated = s.isolated; ids = s.ids; rxq = s.rxq }
-
-pub changed : (s : Inside) (old : KeptState) (new : TemplatesView) (change : Templates → Templates) → state_kept s ≡ old → plans_of new ≡ change (plans_of s.templates)
-    → with_these s (plans_of new) ≡ with_templates change (state_in old)
-changed s old new change same plans = ap (with_these s) plans ∙ ap (λ (k : KeptState). with_templates change (state_in k)) same
+pub gone-tables : (id : ℕ) (tables : List (ℕ × TableView)) → IsDistinct nat_eq (keys_of tables) → IsDistinct nat_eq (keys_of (remove_entry (nat_eq id) tables))
+gone-tables id [] distinct = distinct
+gone-tables id (e ∷ tables) distinct =
+    by (nat_eq id e.0) (IsDistinct-tail nat_eq e.0 (keys_of tables) distinct) (gone-tables id tables (IsDistinct-tail nat_eq e.0 (keys_of tables) distinct)) where
+      by : (b : Bool) → IsDistinct nat_eq (keys_of tables) → IsDistinct nat_eq (keys_of (remove_entry (nat_eq id) tables))
+          → IsDistinct nat_eq (keys_of (cond b tables (e ∷ remove_entry (nat_eq id) tables)))
+      by true rest more = rest
+      by false rest more =
+          IsDistinct-cons nat_eq e.0 (keys_of (remove_entry (nat_eq id) tables))
+          (all-gone (λ y. nat_eq e.0 y ≡ false) id tables (IsDistinct-head nat_eq e.0 (keys_of tables) distinct)) more

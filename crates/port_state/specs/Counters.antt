@@ -1,6 +1,6 @@
 -- What the counters of a history stand at. A counter counts from when its rule, or its shared action, took effect: one that isn't
 -- there stands at 0. A frame is counted once for each time that the walk names the counter.
-use Rattle.std.specs.Prelude.{ℕ, ◌+◌, ◌*◌, Bool, false, ◌==◌, is_some, List, fold, count_by, if◌then◌else◌}
+use Rattle.std.specs.Prelude.{ℕ, ◌+◌, ◌*◌, Bool, false, ◌==◌, is_some, List, [], ◌∷◌, fold, count_by, if◌then◌else◌}
 use Rattle.flow_rules.specs.declared.counter.Counter.{Counter}
 use Rattle.flow_rules.specs.declared.counter.Counter.TheVariants as counters
 use Rattle.flow_rules.specs.declared.counter.Count.{Count}
@@ -10,6 +10,9 @@ use Rattle.flow_rules.specs.Shared.{shared_at}
 use Rattle.flow_rules.specs.Walk.{Flows, counters_of}
 use Rattle.flow_calls.specs.declared.entry.Entry.{Entry}
 use Rattle.flow_calls.specs.declared.entry.Entry.TheVariants.{Asked, Passed}
+use Rattle.flow_rules.specs.declared.change.Change.{Change}
+use Rattle.flow_rules.specs.Changes.{changed}
+use Rattle.port_state.specs.Changes.{changes_by}
 use Rattle.port_state.specs.State.{State, opening, flows_of, state_behind}
 
 abbrev pub zero_count : Count
@@ -38,14 +41,19 @@ pub record Counting : Type 0 where
   pub state : State
   pub count : Count
 
+-- what a counter stands at behind changes: where its rule, or its shared action, is gone, it begins anew
+abbrev pub carried : Counter → Flows → List Change → Count → Count
+carried c flows [] n = n
+carried c flows (change ∷ list) n = carried c (changed flows change) list (while_there (is_there c (changed flows change)) n)
+
 -- what a counter stands at behind one more entry
-abbrev pub count_behind : State → State → Counter → Count → Entry → Count
-count_behind before behind c n (Asked caller call reply) = while_there (is_there c (flows_of behind)) n
-count_behind before behind c n (Passed caller parcel verdict) = counted_more n (count_by (is_counter c) (counters_of (flows_of before) parcel.key)) parcel.len
+abbrev pub count_behind : Limits → State → Counter → Count → Entry → Count
+count_behind limits s c n (Asked caller call reply) = carried c (flows_of s) (changes_by limits s call.op) n
+count_behind limits s c n (Passed caller parcel verdict) = counted_more n (count_by (is_counter c) (counters_of (flows_of s) parcel.key)) parcel.len
 
 abbrev pub counting_behind : Limits → Counter → Counting → Entry → Counting
 counting_behind limits c at entry =
-    record { state = state_behind limits at.state entry; count = count_behind at.state (state_behind limits at.state entry) c at.count entry }
+    record { state = state_behind limits at.state entry; count = count_behind limits at.state c at.count entry }
 
 -- what a counter stands at behind a history
 unfoldable pub count_of : Limits → List Entry → Counter → Count

@@ -9,6 +9,7 @@ use Rattle.indirect_counters.specs.declared.shared_action.SharedAction.{SharedAc
 use Rattle.indirect_counters.specs.Entries as shared
 use Rattle.template_tables.specs.TableView.{TableView}
 use Rattle.template_tables.specs.TemplatesView.{TemplatesView}
+use Rattle.port_state.specs.Queue.{FlowQueue}
 use Rattle.port_state.specs.Tables.{Table, Templates}
 use Rattle.port_state.specs.State.{Placed, State}
 use Rattle.port_state.specs.Counters.{zero_count}
@@ -18,6 +19,8 @@ pub record KeptState : Type 0 where
   pub rules : List InEffect
   pub shared : shared.Entries
   pub templates : TemplatesView
+  pub queues : List FlowQueue
+  pub queue_size : ℕ
   pub isolated : Bool
   pub ids : ℕ
   pub rxq : ℕ
@@ -40,6 +43,8 @@ state_in s = record {
   rules = map placed s.rules;
   shared = shared.values_in_effect s.shared;
   templates = plans_of s.templates;
+  queues = s.queues;
+  queue_size = s.queue_size;
   isolated = s.isolated;
   ids = s.ids;
   rxq = s.rxq;
@@ -56,7 +61,7 @@ count_of_shared (Some entry) = entry.count
 
 abbrev pub count_kept : List InEffect → shared.Entries → Counter → Count
 count_kept list entries (counters.Rule id) = count_of_rule (rules.entry_at id list)
-count_kept list entries (counters.Shared id) = count_of_shared (shared.entry_at id entries)
+count_kept list entries (counters.Shared id) = count_of_shared (shared.in_effect_at id entries)
 
 -- what a counter stands at
 abbrev pub count_in : KeptState → Counter → Count

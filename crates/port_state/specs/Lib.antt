@@ -1,9 +1,16 @@
+pub mod Apart
+pub mod ChangeList
+pub mod ChangeListInside
 pub mod Changes
 pub mod Counted
 pub mod Counters
 pub mod Effect
+pub mod Freed
+pub mod Kept
 pub mod KeptState
+pub mod Queue
 pub mod Raising
+pub mod Ready
 pub mod Reply
 pub mod Standing
 pub mod State

@@ -1,5 +1,5 @@
 -- Counters rise: rules and shared actions stay, and each counter counts a frame for each time that it is named.
-use Rattle.std.specs.Prelude.{◌≡◌, ℕ, ◌+◌, ◌*◌, ◌^◌, ◌<◌, List, [], map, count_by, slice_index_or, take, IsSome, Bool, false, Option, None, Some}
+use Rattle.std.specs.Prelude.{◌≡◌, ℕ, ◌+◌, ◌*◌, ◌^◌, ◌<◌, List, [], map, count_by, slice_index_or, take, length, IsSome, Bool, true, false, Option, None, Some}
 use Rattle.flow_actions.specs.declared.action.Action.{Action}
 use Rattle.flow_actions.specs.declared.action.Action.TheVariants as actions
 use Rattle.flow_rules.specs.RuleView.{RuleView}
@@ -11,17 +11,19 @@ use Rattle.flow_rules.specs.declared.counter.Counter.{Counter}
 use Rattle.flow_rules.specs.declared.counter.Count.{Count}
 use Rattle.rules_in_effect.specs.declared.in_effect.InEffect.{InEffect}
 use Rattle.rules_in_effect.specs.Entries as rules_kept
-use Rattle.indirect_counters.specs.Entries.{Entries, values_in_effect, in_effect_at}
+use Rattle.indirect_counters.specs.Entries.{Entries, created, entry_at, values_in_effect, in_effect_at}
 use Rattle.indirect_counters.specs.Sound.{AreOn}
 use Rattle.port_state.specs.Counters.{counted_more, is_counter}
 use Rattle.port_state.specs.KeptState.{placed, count_kept}
-use Rattle.port_state.specs.StateInside.{AreInEffect}
+use Rattle.object_ids.specs.Ids.{is_used}
 
 -- these counters were raised by a frame of so many bytes, once for each time that they stand here
 pub record Raises (rules : List InEffect) (shared : Entries) (rules' : List InEffect) (shared' : Entries) (names : List Counter) (bytes : ℕ) : Type 0 where
   pub rules_same : map placed rules' ≡ map placed rules
   pub values_same : values_in_effect shared' ≡ values_in_effect shared
-  pub in_effect : AreInEffect shared → AreInEffect shared'
+  pub used : (id : ℕ) → is_used id shared' ≡ is_used id shared
+  pub number : length shared' ≡ length shared
+  pub held : (id : ℕ) (value : Action) → entry_at id shared ≡ Some (created value true) → entry_at id shared' ≡ Some (created value true)
   pub on_port : (rxq : ℕ) → AreOn rxq shared → AreOn rxq shared'
   pub counts : (c : Counter) → count_kept rules' shared' c ≡ counted_more (count_kept rules shared c) (count_by (is_counter c) names) bytes
 

@@ -9,6 +9,7 @@ use Rattle.flow_calls.specs.declared.call.Op.{Op}
 use Rattle.flow_calls.specs.declared.call.Op.TheVariants as ops
 use Rattle.flow_calls.specs.declared.reply.Reply.{Reply}
 use Rattle.flow_calls.specs.declared.reply.Reply.TheVariants as replies
+use Rattle.flow_calls.specs.declared.reply.OpKind.TheVariants as kinds
 use Rattle.flow_calls.specs.declared.entry.Entry.{Entry}
 use Rattle.flow_actions.specs.declared.action.Action.{Action}
 use Rattle.flow_rules.specs.declared.counter.Counter.TheVariants as counters
@@ -20,7 +21,7 @@ use Rattle.object_ids.specs.Ids.{id_for}
 use Rattle.indirect_counters.specs.Refusals as shared_calls
 use Rattle.template_tables.specs.Refusals.{pattern_refusals, actions_refusals, table_refusals, pattern_end_refusals, actions_end_refusals, table_end_refusals}
 use Rattle.flow_calls.specs.declared.rows.ListRow.{ListRow}
-use Rattle.port_state.specs.State.{Placed, create_fault, is_in_effect, objects, kinds_in, plain, rule_in, templates_in}
+use Rattle.port_state.specs.State.{Placed, first_of, configure_refusals, full_fault, queue_fault, queued_update_fault, table_rule_fault, queue_at, create_fault, is_in_effect, objects, kinds_in, plain, rule_in, templates_in}
 use Rattle.port_state.specs.Standing.{Standing, standing_of}
 use Rattle.flow_calls.specs.Rows.{row_of}
 
@@ -74,6 +75,18 @@ answer_of limits at (ops.ActionsTemplateDestroy id) = unless (first (actions_end
 answer_of limits at (ops.TableCreate id attr rules_number templates) =
     unless (first (table_refusals (templates_in at.state) id attr rules_number templates.patterns.items templates.actions.items)) (replies.TableCreated (id_for id at.state.templates.tables))
 answer_of limits at (ops.TableDestroy id) = unless (first (table_end_refusals (templates_in at.state) id)) (replies.TableDestroyed id)
+answer_of limits at (ops.Configure queues size) = unless (first (configure_refusals at.state queues size)) (replies.Configured queues size)
+answer_of limits at (ops.QueueCreate q postpone table pt act lists) =
+    unless (first_of (full_fault at.state q) (table_rule_fault limits at.state table pt act lists)) (replies.Enqueued kinds.RuleCreate at.state.ids)
+answer_of limits at (ops.QueueDestroy q postpone rule) = unless (full_fault at.state q) (replies.Enqueued kinds.RuleDestroy rule)
+answer_of limits at (ops.QueueIndirectCreate q postpone id attr action) =
+    unless (first_of (full_fault at.state q) (shared_calls.create_fault at.state.rxq (objects at.state) id attr action))
+    (replies.Enqueued kinds.IndirectCreate (id_for id (objects at.state)))
+answer_of limits at (ops.QueueIndirectUpdate q postpone id action) =
+    unless (first_of (full_fault at.state q) (queued_update_fault at.state.rxq action)) (replies.Enqueued kinds.IndirectUpdate id)
+answer_of limits at (ops.QueueIndirectDestroy q postpone id) = unless (full_fault at.state q) (replies.Enqueued kinds.IndirectDestroy id)
+answer_of limits at (ops.Push q) = unless (queue_fault at.state q) (replies.Pushed q)
+answer_of limits at (ops.Pull q) = unless (queue_fault at.state q) (replies.Pulled q (queue_at q at.state).results)
 answer_of limits at (ops.Start _) = replies.Started
 answer_of limits at ops.Stop = replies.Stopped at.totals
 answer_of limits at ops.Quit = replies.Bye

@@ -1,20 +1,25 @@
 //! What an accepted call does, told before it is done.
-ghost use Rattle.std.specs.Prelude.{◌≡◌, IfOk};
-ghost use Rattle.port_state.specs.Effect.{change_by};
-
-use flow_calls::{ActionLists, TableTemplates};
+use crate::held::Held;
 use flow_actions::Action;
-use flow_rules::{Attr, Change, Rule};
+use flow_calls::{ActionLists, TableTemplates};
+use flow_rules::{Attr, Rule};
 use pattern_items::Pattern;
 use shared_value::Shared;
-use std::alloc::AllocError;
 
 /// What a call does to the state.
 #[derive(Drop)]
 pub enum Effect {
     Nothing,
-    /// The rule takes effect, with the id that it has.
-    Created(Shared<Rule>),
+    Rules(RuleEffect),
+    Templates(TemplateEffect),
+    Queues(QueueEffect),
+}
+
+/// What a call does to rules and to the actions that they share. Packets see each of these.
+#[derive(Drop)]
+pub enum RuleEffect {
+    /// The rule takes effect, with the id that it has; beside it the same rule for those who follow the changes.
+    Created(Shared<Rule>, Shared<Rule>),
     /// The rule of this id goes.
     Destroyed(u32),
     /// All rules go.
@@ -27,6 +32,11 @@ pub enum Effect {
     SharedDestroyed(u16),
     /// Whether frames that no rule takes are dropped.
     Isolated(bool),
+}
+
+/// What a call does to templates and tables.
+#[derive(Drop)]
+pub enum TemplateEffect {
     /// A pattern template is made, at this id or at the least unused one.
     PatternMade {
         id: Option<u16>,
@@ -54,27 +64,19 @@ pub enum Effect {
     TableGone(u16),
 }
 
-impl Effect {
-    /// The change of what packets see that it makes, if it makes one.
-    pub(crate) fn change(&self) -> Result<Option<Change>, AllocError>
-        ensures { IfOk result (λ change. change ≡ change_by self.now) }
-    {
-        let change = match self {
-            Effect::Nothing
-            | Effect::PatternMade { .. }
-            | Effect::PatternGone(_)
-            | Effect::ActionsMade { .. }
-            | Effect::ActionsGone(_)
-            | Effect::TableMade { .. }
-            | Effect::TableGone(_) => return Ok(None),
-            Effect::Created(rule) => Change::Added(rule.clone()?),
-            Effect::Destroyed(id) => Change::Removed(*id),
-            Effect::Flushed => Change::Flushed,
-            Effect::SharedCreated(id, action) => Change::IndirectSet(*id as u32, action.copied()),
-            Effect::SharedUpdated(id, action) => Change::IndirectSet(*id as u32, action.copied()),
-            Effect::SharedDestroyed(id) => Change::IndirectGone(*id as u32),
-            Effect::Isolated(on) => Change::Isolated(*on),
-        };
-        Ok(Some(change))
-    }
+/// What a call does to flow queues.
+#[derive(Drop)]
+pub enum QueueEffect {
+    /// There are so many flow queues, each for so many operations in flight.
+    Configured(u32, u32),
+    /// A flow queue holds an operation, and where it isn't postponed all that the queue holds takes effect.
+    Enqueued {
+        queue: u16,
+        postpone: bool,
+        op: Held,
+    },
+    /// All that a flow queue holds takes effect.
+    Pushed(u16),
+    /// The results that wait in a flow queue are removed.
+    Pulled(u16),
 }

@@ -20,17 +20,31 @@
 //! Not done here: keeping a history, reading, printing, threads.
 #![tactic(auto)]
 
+mod bound;
+mod carrying;
+mod change_list;
 mod count;
 mod effect;
+mod held;
+mod laws;
 mod listing;
 mod outcome;
+mod performing;
+mod queue_calls;
+mod queues;
 mod raising;
 mod standing;
 mod state;
 mod template_calls;
 mod templates;
 
-pub use effect::Effect;
+pub use change_list::ChangeList;
+pub use effect::{Effect, QueueEffect, RuleEffect, TemplateEffect};
+pub use held::{Held, HeldRule};
+pub use laws::{
+    changes_are_lawful, changes_are_what_packets_see, changes_begin_with_those_of_a_front,
+    equal_changes_give_equal_flows, frames_change_nothing,
+};
 pub use outcome::{Judged, judge};
 pub use standing::Standing;
 pub use state::State;

@@ -1,6 +1,5 @@
 //! The reply to a call, and what the call does.
-ghost use Rattle.std.specs.Prelude.{◌≡◌, [], ◌∷◌, IfOk, IfSome, if◌then◌else◌};
-ghost use Rattle.std.specs.Option.{option_to_list};
+ghost use Rattle.std.specs.Prelude.{◌≡◌, [], ◌∷◌, IfOk, if◌then◌else◌};
 ghost use Rattle.std.specs.Result.{result_err};
 ghost use Rattle.flow_rules.specs.Faults.{first_fault, rule_of};
 ghost use Rattle.object_ids.specs.Ids.{id_for};
@@ -9,15 +8,21 @@ ghost use Rattle.port_state.specs.State.{create_fault, destroyed, is_in_effect, 
 ghost use Rattle.port_state.specs.KeptState.{state_in};
 ghost use Rattle.port_state.specs.Standing.{standing_kept};
 ghost use Rattle.flow_rules.specs.declared.change.Change.TheVariants as changes;
-ghost use Rattle.port_state.specs.Changes.{HasFewActions, change_unless_refused, changes_by};
-ghost use Rattle.port_state.specs.Effect.{change_by, done, IsDue, HaveFreshIds};
+ghost use Rattle.port_state.specs.Changes.{change_unless_refused, changes_by};
+ghost use Rattle.port_state.specs.Effect.{changes_done, done, IsDue};
+ghost use Rattle.port_state.specs.Kept.{AreKept};
 ghost use Rattle.port_state.specs.Reply.{answer_of, reply_to_destroy, unless};
 ghost use Rattle.flow_calls.specs.declared.call.Op.TheVariants as ops;
 ghost use Rattle.port_state.specs.declared.effect.Effect.TheVariants as effects;
+ghost use Rattle.port_state.specs.declared.effect.RuleEffect.TheVariants as rules;
 ghost use Rattle.flow_calls.specs.declared.reply.Reply.TheVariants as replies;
 
 use flow_calls::Op;
-use crate::effect::Effect;
+use crate::effect::{Effect, RuleEffect};
+use crate::queue_calls::{
+    QueuePlace, configured, pulled, pushed, rule_end_held, rule_held, shared_end_held, shared_held,
+    shared_update_held,
+};
 use flow_calls::Reply;
 use crate::standing::Standing;
 use crate::state::{State, plain};
@@ -26,16 +31,15 @@ use crate::template_calls::{
     table_destroyed,
 };
 use flow_actions::Action;
-use flow_rules::{Attr, Cause, Change, Fault, Limits, Rule, RuleSpec, validate};
+use flow_rules::{Attr, Cause, Fault, Limits, Rule, RuleSpec, validate};
 use shared_value::Shared;
 use std::alloc::{AllocError, Global};
 
-/// The reply to a call, what the call does, and the change of what packets see that it makes.
+/// The reply to a call, and what the call does.
 #[derive(Drop)]
 pub struct Judged {
     pub reply: Reply,
     pub effect: Effect,
-    pub change: Option<Change>,
 }
 
 /// What a call comes to.
@@ -46,95 +50,131 @@ pub fn judge(
     op: &Op,
 ) -> Result<Judged, AllocError>
     requires port { limits.now.rxq ≡ (state_in standing.now.state).rxq }
+    requires kept { AreKept standing.now.state }
     ensures reply { IfOk result (λ j. j.reply ≡ answer_of limits.now (standing_kept standing.now) op.now) }
     ensures effect { IfOk result (λ j. done (state_in standing.now.state) j.effect ≡ next_state limits.now (state_in standing.now.state) op.now) }
-    ensures due { IfOk result (λ j. HaveFreshIds (state_in standing.now.state) → IsDue (state_in standing.now.state) j.effect) }
-    ensures change { IfOk result (λ j. option_to_list j.change ≡ changes_by limits.now (state_in standing.now.state) op.now) }
-    ensures few { IfOk result (λ j. IfSome j.change HasFewActions) }
+    ensures due { IfOk result (λ j. IsDue (state_in standing.now.state) j.effect) }
+    ensures changes { IfOk result (λ j. changes_done (state_in standing.now.state) j.effect ≡ changes_by limits.now (state_in standing.now.state) op.now) }
 {
-    let Outcome { reply, effect } = outcome_of(alloc, limits, standing, op)?;
-    let change = effect.change()?;
-    Ok(Judged {
-        reply,
-        effect,
-        change,
-    })
-}
-
-/// The reply to a call, and what the call does.
-#[derive(Drop)]
-pub(crate) struct Outcome {
-    pub(crate) reply: Reply,
-    pub(crate) effect: Effect,
-}
-
-fn outcome_of(
-    alloc: Global,
-    limits: &Limits,
-    standing: &Standing,
-    op: &Op,
-) -> Result<Outcome, AllocError>
-    requires port { limits.now.rxq ≡ (state_in standing.now.state).rxq }
-    ensures reply { IfOk result (λ o. o.reply ≡ answer_of limits.now (standing_kept standing.now) op.now) }
-    ensures effect { IfOk result (λ o. done (state_in standing.now.state) o.effect ≡ next_state limits.now (state_in standing.now.state) op.now) }
-    ensures due { IfOk result (λ o. HaveFreshIds (state_in standing.now.state) → IsDue (state_in standing.now.state) o.effect) }
-    ensures change { IfOk result (λ o. option_to_list (change_by o.effect) ≡ changes_by limits.now (state_in standing.now.state) op.now) }
-    ensures few { IfOk result (λ o. IfSome (change_by o.effect) HasFewActions) }
-{
-    let outcome = match op {
-        Op::Validate(spec) => replies(validated(limits, &standing.state, spec.get())),
-        Op::Create(spec) => created(alloc, limits, &standing.state, spec.get())?,
-        Op::Destroy(id) => destroyed(&standing.state, *id),
-        Op::Flush => does(Reply::Flushed, Effect::Flushed),
-        Op::Query(id) => replies(standing.state.query(*id)),
-        Op::List => replies(Reply::Listed(standing.state.list(alloc)?)),
-        Op::Isolate(on) => does(Reply::Isolated(*on), Effect::Isolated(*on)),
-        Op::IndirectCreate { id, attr, action } => {
-            shared_created(limits, &standing.state, *id, attr, action.get())
-        }
+    match op {
+        Op::Validate(spec) => Ok(replies(validated(limits, &standing.state, spec.get()))),
+        Op::Create(spec) => created(alloc, limits, &standing.state, spec.get()),
+        Op::Destroy(id) => Ok(destroyed(&standing.state, *id)),
+        Op::Flush => Ok(changes_rules(Reply::Flushed, RuleEffect::Flushed)),
+        Op::Query(id) => Ok(replies(standing.state.query(*id))),
+        Op::List => Ok(replies(Reply::Listed(standing.state.list(alloc)?))),
+        Op::Isolate(on) => Ok(changes_rules(
+            Reply::Isolated(*on),
+            RuleEffect::Isolated(*on),
+        )),
+        Op::IndirectCreate { id, attr, action } => Ok(shared_created(
+            limits,
+            &standing.state,
+            *id,
+            attr,
+            action.get(),
+        )),
         Op::IndirectUpdate { id, action } => {
-            shared_updated(limits, &standing.state, *id, action.get())
+            Ok(shared_updated(limits, &standing.state, *id, action.get()))
         }
-        Op::IndirectDestroy(id) => shared_destroyed(&standing.state, *id),
-        Op::IndirectQuery(id) => replies(standing.state.query_shared(*id)),
+        Op::IndirectDestroy(id) => Ok(shared_destroyed(&standing.state, *id)),
+        Op::IndirectQuery(id) => Ok(replies(standing.state.query_shared(*id))),
         Op::PatternTemplateCreate { id, attr, pattern } => {
-            pattern_created(&standing.state, *id, attr, pattern)?
+            pattern_created(&standing.state, *id, attr, pattern)
         }
-        Op::PatternTemplateDestroy(id) => pattern_destroyed(&standing.state, *id),
+        Op::PatternTemplateDestroy(id) => Ok(pattern_destroyed(&standing.state, *id)),
         Op::ActionsTemplateCreate { id, attr, lists } => {
-            actions_created(&standing.state, *id, attr, lists)?
+            actions_created(&standing.state, *id, attr, lists)
         }
-        Op::ActionsTemplateDestroy(id) => actions_destroyed(&standing.state, *id),
+        Op::ActionsTemplateDestroy(id) => Ok(actions_destroyed(&standing.state, *id)),
         Op::TableCreate {
             id,
             attr,
             rules_number,
             templates,
-        } => table_created(&standing.state, *id, attr, *rules_number, templates)?,
-        Op::TableDestroy(id) => table_destroyed(&standing.state, *id),
-        Op::Start(_) => replies(Reply::Started),
-        Op::Stop => replies(Reply::Stopped(Shared::new(alloc, standing.totals)?)),
-        Op::Quit => replies(Reply::Bye),
-        Op::Bad(kind) => replies(Reply::Bad(*kind)),
-    };
-    Ok(outcome)
+        } => table_created(&standing.state, *id, attr, *rules_number, templates),
+        Op::TableDestroy(id) => Ok(table_destroyed(&standing.state, *id)),
+        Op::Configure { queues, size } => Ok(configured(&standing.state, *queues, *size)),
+        Op::QueueCreate {
+            queue,
+            postpone,
+            table,
+            pt,
+            act,
+            lists,
+        } => {
+            let place = QueuePlace::new(*queue, *postpone);
+            rule_held(alloc, limits, &standing.state, place, *table, *pt, *act, lists.get())
+        }
+        Op::QueueDestroy {
+            queue,
+            postpone,
+            rule,
+        } => {
+            let place = QueuePlace::new(*queue, *postpone);
+            Ok(rule_end_held(&standing.state, place, *rule))
+        }
+        Op::QueueIndirectCreate {
+            queue,
+            postpone,
+            id,
+            attr,
+            action,
+        } => {
+            let place = QueuePlace::new(*queue, *postpone);
+            Ok(shared_held(limits, &standing.state, place, *id, attr, action.get()))
+        }
+        Op::QueueIndirectUpdate {
+            queue,
+            postpone,
+            id,
+            action,
+        } => {
+            let place = QueuePlace::new(*queue, *postpone);
+            Ok(shared_update_held(limits, &standing.state, place, *id, action.get()))
+        }
+        Op::QueueIndirectDestroy {
+            queue,
+            postpone,
+            id,
+        } => {
+            let place = QueuePlace::new(*queue, *postpone);
+            Ok(shared_end_held(&standing.state, place, *id))
+        }
+        Op::Push(queue) => Ok(pushed(&standing.state, *queue)),
+        Op::Pull(queue) => pulled(alloc, &standing.state, *queue),
+        Op::Start(_) => Ok(replies(Reply::Started)),
+        Op::Stop => Ok(replies(Reply::Stopped(Shared::new(alloc, standing.totals)?))),
+        Op::Quit => Ok(replies(Reply::Bye)),
+        Op::Bad(kind) => Ok(replies(Reply::Bad(*kind))),
+    }
 }
 
 /// A reply alone.
-pub(crate) fn replies(reply: Reply) -> Outcome
+pub(crate) fn replies(reply: Reply) -> Judged
     ensures { result ≡ record { reply = reply; effect = effects.Nothing } }
 {
-    Outcome {
+    Judged {
         reply,
         effect: Effect::Nothing,
     }
 }
 
-/// A reply and an effect.
-pub(crate) fn does(reply: Reply, effect: Effect) -> Outcome
-    ensures { result ≡ record { reply = reply; effect = effect } }
+/// A fault.
+pub(crate) fn refuses(fault: Fault) -> Judged
+    ensures { result ≡ record { reply = replies.Fault fault; effect = effects.Nothing } }
 {
-    Outcome { reply, effect }
+    replies(Reply::Fault(fault))
+}
+
+/// A reply, and what is done to rules.
+fn changes_rules(reply: Reply, effect: RuleEffect) -> Judged
+    ensures { result ≡ record { reply = reply; effect = effects.Rules effect } }
+{
+    Judged {
+        reply,
+        effect: Effect::Rules(effect),
+    }
 }
 
 /// Whether a rule would be taken.
@@ -167,42 +207,41 @@ fn created(
     limits: &Limits,
     state: &State,
     spec: &RuleSpec,
-) -> Result<Outcome, AllocError>
+) -> Result<Judged, AllocError>
     ensures reply { IfOk result (λ o. o.reply ≡ unless (create_fault limits.now (state_in state.now) spec.now) (replies.Created (state_in state.now).ids)) }
     ensures effect { IfOk result (λ o. done (state_in state.now) o.effect ≡ next_state limits.now (state_in state.now) (ops.Create spec.now)) }
-    ensures due { IfOk result (λ o. HaveFreshIds (state_in state.now) → IsDue (state_in state.now) o.effect) }
-    ensures change { IfOk result (λ o. option_to_list (change_by o.effect) ≡ changes_by limits.now (state_in state.now) (ops.Create spec.now)) }
-    ensures few { IfOk result (λ o. IfSome (change_by o.effect) HasFewActions) }
+    ensures due { IfOk result (λ o. IsDue (state_in state.now) o.effect) }
+    ensures change { IfOk result (λ o. changes_done (state_in state.now) o.effect ≡ changes_by limits.now (state_in state.now) (ops.Create spec.now)) }
 {
     match new_rule(limits, state, spec) {
         Ok(rule) => takes_effect(alloc, rule),
-        Err(fault) => Ok(replies(Reply::Fault(fault))),
+        Err(fault) => Ok(refuses(fault)),
     }
 }
 
 /// A rule takes effect. From here on it is shared by all who keep it.
-fn takes_effect(alloc: Global, rule: Rule) -> Result<Outcome, AllocError>
-    ensures outcome { IfOk result (λ o. o ≡ record { reply = replies.Created rule.id; effect = effects.Created rule }) }
-    ensures few { IfOk result (λ o. IfSome (change_by o.effect) HasFewActions) }
+fn takes_effect(alloc: Global, rule: Rule) -> Result<Judged, AllocError>
+    ensures { IfOk result (λ o. o ≡ record { reply = replies.Created rule.id; effect = effects.Rules (rules.Created rule rule) }) }
 {
-    // The rule tells that it has at most 16 actions.
-    let _actions = rule.actions();
     let id = rule.id();
     let rule = Shared::new(alloc, rule)?;
-    Ok(does(Reply::Created(id), Effect::Created(rule)))
+    let told = rule.clone()?;
+    Ok(changes_rules(
+        Reply::Created(id),
+        RuleEffect::Created(rule, told),
+    ))
 }
 
-fn destroyed(state: &State, id: u32) -> Outcome
+fn destroyed(state: &State, id: u32) -> Judged
     ensures reply { result.reply ≡ reply_to_destroy id (is_in_effect id (state_in state.now)) }
     ensures effect { done (state_in state.now) result.effect ≡ if is_in_effect id (state_in state.now) then destroyed id (state_in state.now) else (state_in state.now) }
     ensures due { IsDue (state_in state.now) result.effect }
-    ensures change { option_to_list (change_by result.effect) ≡ if is_in_effect id (state_in state.now) then changes.Removed id ∷ [] else [] }
-    ensures few { IfSome (change_by result.effect) HasFewActions }
+    ensures change { changes_done (state_in state.now) result.effect ≡ if is_in_effect id (state_in state.now) then changes.Removed id ∷ [] else [] }
 {
     if state.is_in_effect(id) {
-        return does(Reply::Destroyed(id), Effect::Destroyed(id));
+        return changes_rules(Reply::Destroyed(id), RuleEffect::Destroyed(id));
     }
-    replies(Reply::Fault(plain(Cause::NoRule)))
+    refuses(plain(Cause::NoRule))
 }
 
 fn shared_created(
@@ -211,53 +250,54 @@ fn shared_created(
     id: Option<u16>,
     attr: &Attr,
     action: &Action,
-) -> Outcome
+) -> Judged
+    requires kept { AreKept state.now }
     requires port { limits.now.rxq ≡ (state_in state.now).rxq }
     ensures reply { result.reply ≡ unless (shared_calls.create_fault (state_in state.now).rxq (objects (state_in state.now)) id attr.now action.now)
         (replies.IndirectCreated (id_for id (objects (state_in state.now)))) }
     ensures effect { done (state_in state.now) result.effect ≡ next_state limits.now (state_in state.now) (ops.IndirectCreate id attr.now action.now) }
     ensures due { IsDue (state_in state.now) result.effect }
-    ensures change { option_to_list (change_by result.effect) ≡ changes_by limits.now (state_in state.now) (ops.IndirectCreate id attr.now action.now) }
-    ensures few { IfSome (change_by result.effect) HasFewActions }
+    ensures change { changes_done (state_in state.now) result.effect ≡ changes_by limits.now (state_in state.now) (ops.IndirectCreate id attr.now action.now) }
 {
     if let Some(fault) = state.create_fault(limits, id, attr, action) {
-        return replies(Reply::Fault(fault));
+        return refuses(fault);
     }
     let new = state.new_id(id);
-    does(
+    changes_rules(
         Reply::IndirectCreated(new),
-        Effect::SharedCreated(new, action.copied()),
+        RuleEffect::SharedCreated(new, action.copied()),
     )
 }
 
-fn shared_updated(limits: &Limits, state: &State, id: u16, action: &Action) -> Outcome
+fn shared_updated(limits: &Limits, state: &State, id: u16, action: &Action) -> Judged
     requires port { limits.now.rxq ≡ (state_in state.now).rxq }
     ensures reply { result.reply ≡ unless (shared_calls.update_fault (state_in state.now).rxq (objects (state_in state.now)) id action.now) (replies.IndirectUpdated id) }
     ensures effect { done (state_in state.now) result.effect ≡ next_state limits.now (state_in state.now) (ops.IndirectUpdate id action.now) }
     ensures due { IsDue (state_in state.now) result.effect }
-    ensures change { option_to_list (change_by result.effect) ≡ changes_by limits.now (state_in state.now) (ops.IndirectUpdate id action.now) }
-    ensures few { IfSome (change_by result.effect) HasFewActions }
+    ensures change { changes_done (state_in state.now) result.effect ≡ changes_by limits.now (state_in state.now) (ops.IndirectUpdate id action.now) }
 {
     match state.update_fault(limits, id, action) {
-        Some(fault) => replies(Reply::Fault(fault)),
-        None => does(
+        Some(fault) => refuses(fault),
+        None => changes_rules(
             Reply::IndirectUpdated(id),
-            Effect::SharedUpdated(id, action.copied()),
+            RuleEffect::SharedUpdated(id, action.copied()),
         ),
     }
 }
 
-fn shared_destroyed(state: &State, id: u16) -> Outcome
+fn shared_destroyed(state: &State, id: u16) -> Judged
     ensures reply { result.reply ≡ unless (shared_calls.destroy_fault (objects (state_in state.now)) id) (replies.IndirectDestroyed id) }
     ensures effect { done (state_in state.now) result.effect
         ≡ unless_refused (shared_calls.destroy_fault (objects (state_in state.now)) id) (shared_gone id (state_in state.now)) (state_in state.now) }
     ensures due { IsDue (state_in state.now) result.effect }
-    ensures change { option_to_list (change_by result.effect)
+    ensures change { changes_done (state_in state.now) result.effect
         ≡ change_unless_refused (shared_calls.destroy_fault (objects (state_in state.now)) id) (changes.IndirectGone id) }
-    ensures few { IfSome (change_by result.effect) HasFewActions }
 {
     match state.destroy_fault(id) {
-        Some(fault) => replies(Reply::Fault(fault)),
-        None => does(Reply::IndirectDestroyed(id), Effect::SharedDestroyed(id)),
+        Some(fault) => refuses(fault),
+        None => changes_rules(
+            Reply::IndirectDestroyed(id),
+            RuleEffect::SharedDestroyed(id),
+        ),
     }
 }

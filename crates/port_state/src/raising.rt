@@ -7,7 +7,6 @@ ghost use Rattle.flow_rules.specs.Naming.{named_by, namings_of, rule_at};
 ghost use Rattle.rules_in_effect.specs.Entries.{rule_in};
 ghost use Rattle.indirect_counters.specs.Entries.{values_in_effect};
 ghost use Rattle.port_state.specs.KeptState.{count_kept};
-ghost use Rattle.port_state.specs.StateInside.{AreInEffect};
 ghost use Rattle.port_state.specs.Raising.{Raises, HasRoomFor, IsKept, IsNamed, IsSharedThere, actions_in, is_count_of, naming_at};
 
 use crate::state::value_of;
@@ -19,7 +18,6 @@ use rules_in_effect::RulesInEffect;
 /// Counts a frame of so many bytes for the rules of these ids, in order.
 pub(crate) fn raise_all(rules: &mut RulesInEffect, shared: &mut Indirects, path: &[u32], bytes: u32)
     requires few { length path.now ≤ 16 }
-    requires in_effect { AreInEffect shared.old.entries }
     requires room { (c : CounterView) → HasRoomFor 256 (count_kept rules.old.list shared.old.entries c) }
     ensures raises { Raises rules.old.list shared.old.entries rules.new.list shared.new.entries
         (flat_map (λ id. namings_of (values_in_effect shared.old.entries) (rule_at id (map rule_in rules.old.list))) path.now) bytes }
@@ -32,7 +30,6 @@ pub(crate) fn raise_all(rules: &mut RulesInEffect, shared: &mut Indirects, path:
 
 /// Counts a frame of so many bytes for each action of a rule that comes to COUNT.
 fn raise_rule(rules: &mut RulesInEffect, shared: &mut Indirects, id: u32, bytes: u32)
-    requires in_effect { AreInEffect shared.old.entries }
     requires room { (c : CounterView) → HasRoomFor 16 (count_kept rules.old.list shared.old.entries c) }
     ensures raises { Raises rules.old.list shared.old.entries rules.new.list shared.new.entries
         (namings_of (values_in_effect shared.old.entries) (rule_at id (map rule_in rules.old.list))) bytes }
@@ -58,7 +55,6 @@ fn actions_of(rules: &RulesInEffect, id: u32) -> usize
 
 /// The counter that the action at a place of a rule names, if it comes to COUNT.
 fn named_at(rules: &RulesInEffect, shared: &Indirects, id: u32, place: usize) -> Option<Counter>
-    requires { AreInEffect shared.now.entries }
     ensures named { option_to_list result ≡ naming_at (values_in_effect shared.now.entries) (rule_at id (map rule_in rules.now.list)) place }
     ensures there { IfSome result (λ counter. IsKept counter rules.now.list shared.now.entries) }
 {
@@ -75,7 +71,6 @@ fn named_at(rules: &RulesInEffect, shared: &Indirects, id: u32, place: usize) ->
 
 /// The counter that an action of a rule names, if it comes to COUNT.
 fn named_by(shared: &Indirects, rule: u32, action: &Action) -> Option<Counter>
-    requires { AreInEffect shared.now.entries }
     ensures named { option_to_list result ≡ named_by (counter_in rule action.now) (value_in (values_in_effect shared.now.entries) action.now) }
     ensures there { IfSome result (IsNamed rule shared.now.entries) }
 {
@@ -100,7 +95,6 @@ fn named_by(shared: &Indirects, rule: u32, action: &Action) -> Option<Counter>
 
 /// Whether the shared action of an id is COUNT.
 fn is_shared_count(shared: &Indirects, id: u32) -> bool
-    requires { AreInEffect shared.now.entries }
     ensures value { result ≡ is_count_of (shared_at id (values_in_effect shared.now.entries)) }
     ensures there { result ≡ true → IsSharedThere id shared.now.entries }
 {
@@ -112,7 +106,6 @@ fn is_shared_count(shared: &Indirects, id: u32) -> bool
 
 /// Counts a frame of so many bytes.
 fn raise_one(rules: &mut RulesInEffect, shared: &mut Indirects, counter: Counter, bytes: u32)
-    requires in_effect { AreInEffect shared.old.entries }
     requires there { IsKept counter rules.old.list shared.old.entries }
     requires room { HasRoomFor 1 (count_kept rules.old.list shared.old.entries counter) }
     ensures { Raises rules.old.list shared.old.entries rules.new.list shared.new.entries (counter ∷ []) bytes }

@@ -3,6 +3,7 @@ ghost use Rattle.std.specs.Prelude.{◌≤◌, length};
 ghost use Rattle.flow_rules.specs.OnPort.{IsBelow};
 ghost use Rattle.flow_rules.specs.declared.counter.Counter.{Counter};
 ghost use Rattle.port_state.specs.Counted.{HasRoom};
+ghost use Rattle.port_state.specs.Kept.{AreKept};
 ghost use Rattle.port_state.specs.KeptState.{count_in};
 ghost use Rattle.port_state.specs.Raising.{HasRoomFor};
 ghost use Rattle.port_state.specs.Standing.{Counts, standing_kept};
@@ -26,7 +27,8 @@ impl Standing {
         requires below { IsBelow 16 fate }
         requires room { (c : Counter) → HasRoomFor 256 (count_in self.old.state c) }
         requires totals { HasRoom self.old.totals }
-        ensures { Counts (standing_kept self.old) (standing_kept self.new) path.now fate bytes }
+        ensures counts { Counts (standing_kept self.old) (standing_kept self.new) path.now fate bytes }
+        ensures kept { AreKept self.old.state → AreKept self.new.state }
     {
         self.state.raise(path, bytes);
         count(&mut self.totals, fate);

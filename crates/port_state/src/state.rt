@@ -1,5 +1,6 @@
 //! The state: the rules in effect and the actions that they share, templates and tables, and what calls do to them.
-ghost use Rattle.std.specs.Prelude.{◌≡◌, ℕ, ◌+◌, ◌<◌, ◌≤◌, ◌^◌, [], map, flat_map, length, count_by, None, Some, IfOk, IfSome, OnOk, OnErr};
+ghost use Rattle.std.specs.Prelude.{◌≡◌, ◌||◌, ℕ, ◌+◌, ◌<◌, ◌≤◌, ◌^◌, [], map, flat_map, length, count_by, None, Some, IfOk, IfSome, OnOk, OnErr};
+ghost use Rattle.std.specs.List.{list_any};
 ghost use Rattle.std.specs.Option.{option_copied};
 ghost use Rattle.flow_rules.specs.declared.counter.Counter.{Counter};
 ghost use Rattle.flow_rules.specs.declared.counter.Counter.TheVariants as counters;
@@ -7,26 +8,30 @@ ghost use Rattle.flow_rules.specs.Faults.{is_count};
 ghost use Rattle.flow_rules.specs.Naming.{rule_at, namings_at, HaveOwnIds};
 ghost use Rattle.flow_rules.specs.Shared.{shared_at, IsSharedOn};
 ghost use Rattle.object_ids.specs.Ids.{id_for};
-ghost use Rattle.indirect_counters.specs.Entries.{value_at};
+ghost use Rattle.rules_in_effect.specs.Entries.{is_user};
+ghost use Rattle.indirect_counters.specs.Entries.{values_in_effect};
 ghost use Rattle.indirect_counters.specs.Sound.{AreOn, CanAdd};
 ghost use Rattle.indirect_counters.specs.Refusals as shared_calls;
 ghost use Rattle.port_state.specs.Counters.{counted_more, is_counter, is_there, while_there, zero_count};
 ghost use Rattle.port_state.specs.KeptState.{state_in, count_in};
-ghost use Rattle.port_state.specs.Raising.{HasRoomFor};
+ghost use Rattle.port_state.specs.Raising.{HasRoomFor, IsSharedThere};
 ghost use Rattle.port_state.specs.Reply.{row_in, reply_of_count, reply_to_query, reply_to_shared_query};
-ghost use Rattle.port_state.specs.State.{opening, flows_of, rule_in, kinds_in, objects, is_in_effect, room_fault, created, destroyed, flushed, isolated, shared_set, shared_gone};
-ghost use Rattle.port_state.specs.Effect.{done, IsDue};
+ghost use Rattle.port_state.specs.State.{opening, flows_of, rule_in, kinds_in, all_held, is_held_user, objects, is_in_effect, room_fault, created, destroyed, flushed, isolated, shared_set, shared_gone};
+ghost use Rattle.port_state.specs.Effect.{operations, IsDue};
+ghost use Rattle.port_state.specs.Kept.{AreKept};
 
 use crate::effect::Effect;
+use crate::held::Held;
 use crate::listing::list_of;
+use crate::performing::is_held_used;
 use crate::raising::raise_all;
-use flow_calls::Reply;
-use flow_calls::RuleList;
+use flow_calls::{Reply, RuleList};
 use flow_actions::{Action, ActionKind};
 use flow_rules::{
     Attr, Cause, Count, Fault, FlowsInEffect, Known, Limits, Rule, has_count, is_count,
 };
 use indirect_counters::Indirects;
+use op_queues::OpQueue;
 use packet_headers::Key;
 use rules_in_effect::RulesInEffect;
 use shared_value::Shared;
@@ -41,6 +46,10 @@ pub struct State {
     pub(crate) rules: RulesInEffect,
     pub(crate) shared: Indirects,
     pub(crate) templates: Templates,
+    /// The flow queues, none before they are configured.
+    pub(crate) queues: Vec<OpQueue<Held>>,
+    /// For how many operations in flight each of them is.
+    pub(crate) queue_size: u16,
     /// Whether a frame that no rule takes is dropped.
     pub(crate) isolated: bool,
     /// How many rule ids were given.
@@ -91,6 +100,8 @@ impl Known for State {
     ghost kinds = { λ (s : KeptState). kinds_in (state_in s) };
 
     fn kind_of(&self, id: u32) -> Option<ActionKind> {
+        // The list tells that no id stands twice.
+        let _number = self.shared.len();
         self.shared.kind_of(id)
     }
 }
@@ -100,25 +111,41 @@ impl State {
     pub fn new(alloc: Global, limits: &Limits) -> State
         ensures state { state_in result ≡ opening limits.now }
         ensures counts { (c : Counter) → count_in result c ≡ zero_count }
+        ensures kept { AreKept result }
     {
         State {
             rules: RulesInEffect::new(alloc),
             shared: Indirects::new(alloc),
             templates: Templates::new(alloc),
+            queues: Vec::new(alloc),
+            queue_size: 0,
             isolated: false,
             ids: 0,
             rxq: limits.rxq,
         }
     }
 
-    /// Takes memory for one more rule, and for one more shared action.
-    pub fn reserve(&mut self) -> Result<(), AllocError>
+    /// How many operations an effect may let take effect.
+    pub fn operations(&self, effect: &Effect) -> u32
+        requires { IsDue (state_in self.now) effect.now }
+        ensures { result ≡ operations (state_in self.now) effect.now }
+    {
+        match effect {
+            Effect::Nothing | Effect::Templates(_) => 0,
+            Effect::Rules(_) => 1,
+            Effect::Queues(effect) => self.queue_operations(effect),
+        }
+    }
+
+    /// Takes memory for so many more rules, and for one more shared action.
+    pub fn reserve(&mut self, more: u32) -> Result<(), AllocError>
         ensures state { (state_in self.new) ≡ (state_in self.old) }
         ensures counts { (c : Counter) → count_in self.new c ≡ count_in self.old c }
-        ensures room { OnOk result (1 ≤ self.new.room) }
+        ensures kept { AreKept self.old → AreKept self.new }
+        ensures room { OnOk result (more ≤ self.new.room) }
         ensures shared_room { OnOk result (1 ≤ self.new.shared_room) }
     {
-        self.rules.reserve(1)?;
+        self.rules.reserve(more)?;
         self.shared.reserve()
     }
 
@@ -136,10 +163,7 @@ impl State {
         if self.rules.plain_len() >= limits.flow_max as usize {
             return Some(plain(Cause::StoreFull));
         }
-        if self.ids == u32::MAX {
-            return Some(plain(Cause::TooMany));
-        }
-        None
+        self.ids_fault()
     }
 
     /// Whether a rule of this id is in effect, outside tables.
@@ -179,6 +203,8 @@ impl State {
     pub(crate) fn query_shared(&self, id: u16) -> Reply
         ensures { result ≡ reply_to_shared_query (shared_at id (state_in self.now).shared) (count_in self.now (counters.Shared id)) }
     {
+        // The list tells that no id stands twice.
+        let _number = self.shared.len();
         let Some(value) = self.shared.value(id) else {
             return Reply::Fault(plain(Cause::NoObject));
         };
@@ -196,6 +222,7 @@ impl State {
         attr: &Attr,
         action: &Action,
     ) -> Option<Fault>
+        requires { AreKept self.now }
         ensures fault { result ≡ shared_calls.create_fault limits.now.rxq (objects (state_in self.now)) id attr.now action.now }
         ensures free { result ≡ None → CanAdd (id_for id (objects (state_in self.now))) action.now (objects (state_in self.now)) }
     {
@@ -204,6 +231,7 @@ impl State {
 
     /// The id of a new shared action: the one that is asked for, or the least that isn't in use.
     pub(crate) fn new_id(&self, id: Option<u16>) -> u16
+        requires { AreKept self.now }
         ensures { result ≡ id_for id (objects (state_in self.now)) }
     {
         self.shared.id_for(id)
@@ -213,6 +241,8 @@ impl State {
     pub(crate) fn update_fault(&self, limits: &Limits, id: u16, action: &Action) -> Option<Fault>
         ensures { result ≡ shared_calls.update_fault limits.now.rxq (objects (state_in self.now)) id action.now }
     {
+        // The list tells that no id stands twice.
+        let _number = self.shared.len();
         self.shared.update_fault(id, action, limits)
     }
 
@@ -220,127 +250,25 @@ impl State {
     pub(crate) fn destroy_fault(&self, id: u16) -> Option<Fault>
         ensures { result ≡ shared_calls.destroy_fault (objects (state_in self.now)) id }
     {
+        // The list tells that no id stands twice.
+        let _number = self.shared.len();
         let Some(_) = self.shared.value(id) else {
             return Some(plain(Cause::NoObject));
         };
-        if self.rules.is_used(id as u32) {
+        if self.has_users(id) {
             return Some(plain(Cause::Busy));
         }
         None
     }
 
-    /// Does what an accepted call does. Want of memory leaves the state as it was.
-    pub fn carry_out(&mut self, limits: &Limits, effect: Effect) -> Result<(), AllocError>
-        requires port { limits.now.rxq ≡ (state_in self.old).rxq }
-        requires room { 1 ≤ self.old.room }
-        requires shared_room { 1 ≤ self.old.shared_room }
-        requires numbers { (done (state_in self.old) effect).ids < 2 ^ 32 }
-        requires due { IsDue (state_in self.old) effect }
-        ensures state { OnOk result ((state_in self.new) ≡ done (state_in self.old) effect) }
-        ensures counts { OnOk result ((c : Counter) → count_in self.new c ≡ while_there (is_there c (flows_of (state_in self.new))) (count_in self.old c)) }
-        ensures stays { OnErr result (self.new ≡ self.old) }
+    /// Whether a rule uses a shared action, in effect or as its creation is held.
+    fn has_users(&self, id: u16) -> bool
+        ensures { result ≡ (list_any (is_user id) self.now.rules || list_any (is_held_user id) (all_held (state_in self.now))) }
     {
-        match effect {
-            Effect::Nothing => self.stay(),
-            Effect::Created(rule) => self.create(rule),
-            Effect::Destroyed(id) => self.destroy(id),
-            Effect::Flushed => self.flush(),
-            Effect::Isolated(on) => self.isolate(on),
-            Effect::SharedCreated(id, action) => self.share(id, &action),
-            Effect::SharedUpdated(id, action) => self.replace(limits, id, &action),
-            Effect::SharedDestroyed(id) => self.unshare(id),
-            Effect::PatternGone(id) => self.end_pattern(id),
-            Effect::ActionsGone(id) => self.end_actions(id),
-            Effect::TableGone(id) => self.end_table(id),
-            Effect::PatternMade { id, attr, pattern } => {
-                return self.make_pattern(id, &attr, pattern.get());
-            }
-            Effect::ActionsMade { id, attr, lists } => {
-                return self.make_actions(id, &attr, lists.get());
-            }
-            Effect::TableMade {
-                id,
-                attr,
-                rules_number,
-                templates,
-            } => return self.make_table(id, &attr, rules_number, templates.get()),
+        if self.rules.is_used(id as u32) {
+            return true;
         }
-        Ok(())
-    }
-
-    /// Nothing happens; a counter that isn't there stands at 0 as it is.
-    fn stay(&self)
-        ensures counts { (c : Counter) → count_in self.now c ≡ while_there (is_there c (flows_of (state_in self.now))) (count_in self.now c) }
-    {
-        let _rules = &self.rules;
-    }
-
-    /// A rule takes effect, behind all others, and an id is given.
-    fn create(&mut self, rule: Shared<Rule>)
-        requires room { 1 ≤ self.old.room }
-        requires numbers { (state_in self.old).ids + 1 < 2 ^ 32 }
-        requires fresh { rule_at rule.id (map rule_in (state_in self.old).rules) ≡ None }
-        ensures state { (state_in self.new) ≡ created rule (state_in self.old) }
-        ensures counts { (c : Counter) → count_in self.new c ≡ while_there (is_there c (flows_of (state_in self.new))) (count_in self.old c) }
-    {
-        self.rules.push(rule, None);
-        self.ids += 1;
-    }
-
-    /// The rule of this id goes.
-    fn destroy(&mut self, id: u32)
-        ensures state { (state_in self.new) ≡ destroyed id (state_in self.old) }
-        ensures counts { (c : Counter) → count_in self.new c ≡ while_there (is_there c (flows_of (state_in self.new))) (count_in self.old c) }
-    {
-        self.rules.remove(id);
-    }
-
-    /// All rules go.
-    fn flush(&mut self)
-        ensures state { (state_in self.new) ≡ flushed (state_in self.old) }
-        ensures counts { (c : Counter) → count_in self.new c ≡ while_there (is_there c (flows_of (state_in self.new))) (count_in self.old c) }
-    {
-        self.rules.clear();
-    }
-
-    /// Whether frames that no rule takes are dropped.
-    fn isolate(&mut self, on: bool)
-        ensures state { (state_in self.new) ≡ isolated on (state_in self.old) }
-        ensures counts { (c : Counter) → count_in self.new c ≡ while_there (is_there c (flows_of (state_in self.new))) (count_in self.old c) }
-    {
-        self.isolated = on;
-    }
-
-    /// An action that rules can share takes effect.
-    fn share(&mut self, id: u16, action: &Action)
-        requires room { 1 ≤ self.old.shared_room }
-        requires free { CanAdd id action.now (objects (state_in self.old)) }
-        requires lawful { IsSharedOn (state_in self.old).rxq action.now }
-        ensures state { (state_in self.new) ≡ shared_set id action.now (state_in self.old) }
-        ensures counts { (c : Counter) → count_in self.new c ≡ while_there (is_there c (flows_of (state_in self.new))) (count_in self.old c) }
-    {
-        self.shared.add(id, action, false);
-    }
-
-    /// A shared action has this value from here on.
-    fn replace(&mut self, limits: &Limits, id: u16, action: &Action)
-        requires port { limits.now.rxq ≡ (state_in self.old).rxq }
-        requires due { shared_calls.update_fault (state_in self.old).rxq (objects (state_in self.old)) id action.now ≡ None }
-        ensures state { (state_in self.new) ≡ shared_set id action.now (state_in self.old) }
-        ensures counts { (c : Counter) → count_in self.new c ≡ while_there (is_there c (flows_of (state_in self.new))) (count_in self.old c) }
-    {
-        let _ = self.shared.update(id, action, limits);
-    }
-
-    /// A shared action goes.
-    fn unshare(&mut self, id: u16)
-        requires due { shared_calls.destroy_fault (objects (state_in self.old)) id ≡ None }
-        ensures state { (state_in self.new) ≡ shared_gone id (state_in self.old) }
-        ensures counts { (c : Counter) → count_in self.new c ≡ while_there (is_there c (flows_of (state_in self.new))) (count_in self.old c) }
-    {
-        // The list tells that no id stands twice.
-        let _number = self.shared.len();
-        self.shared.remove(id);
+        is_held_used(self.queues.as_slice(), id)
     }
 
     /// Counts a frame of so many bytes for the rules of these ids, in order.
@@ -348,6 +276,7 @@ impl State {
         requires few { length path.now ≤ 16 }
         requires room { (c : Counter) → HasRoomFor 256 (count_in self.old c) }
         ensures state { (state_in self.new) ≡ (state_in self.old) }
+        ensures kept { AreKept self.old → AreKept self.new }
         ensures counts { (c : Counter) → count_in self.new c ≡ counted_more (count_in self.old c)
             (count_by (is_counter c) (flat_map (namings_at (flows_of (state_in self.old))) path.now)) bytes }
         ensures few { length (flat_map (namings_at (flows_of (state_in self.old))) path.now) ≤ 256 }
@@ -379,11 +308,11 @@ pub(crate) fn plain(cause: Cause) -> Fault
 
 /// The value in effect of a shared action.
 pub(crate) fn value_of(shared: &Indirects, id: u32) -> Option<&Action>
-    ensures value { option_copied result ≡ value_at id shared.now.entries }
+    ensures value { option_copied result ≡ shared_at id (values_in_effect shared.now.entries) }
     ensures lawful { (rxq : ℕ) → AreOn rxq shared.now.entries → IfSome result (λ action. IsSharedOn rxq action.now) }
-    ensures short { IfSome result (λ _. id < 2 ^ 16) }
+    ensures there { IfSome result (λ _. IsSharedThere id shared.now.entries) }
 {
-    // The list tells that ids have 16 bits.
+    // The list tells that ids have 16 bits, and that none stands twice.
     let _number = shared.len();
     if id > u16::MAX as u32 {
         return None;

@@ -4,9 +4,9 @@ ghost use Rattle.flow_rules.specs.declared.counter.Counter.{Counter};
 ghost use Rattle.flow_rules.specs.Faults.{first};
 ghost use Rattle.object_ids.specs.Ids.{id_for};
 ghost use Rattle.template_tables.specs.Refusals.{pattern_refusals, actions_refusals, table_refusals, pattern_end_refusals, actions_end_refusals, table_end_refusals};
-ghost use Rattle.port_state.specs.Counters.{is_there, while_there};
+ghost use Rattle.port_state.specs.Kept.{AreKept};
 ghost use Rattle.port_state.specs.KeptState.{state_in, count_in};
-ghost use Rattle.port_state.specs.State.{flows_of, templates_in, with_templates};
+ghost use Rattle.port_state.specs.State.{templates_in, with_templates};
 ghost use Rattle.port_state.specs.Tables.{pattern_made, actions_made, table_made, pattern_gone, actions_gone, table_gone};
 
 use flow_calls::{ActionLists, TableTemplates};
@@ -50,7 +50,8 @@ impl State {
         pattern: &Pattern,
     ) -> Result<(), AllocError>
         ensures state { OnOk result (state_in self.new ≡ with_templates (pattern_made id pattern.now) (state_in self.old)) }
-        ensures counts { OnOk result ((c : Counter) → count_in self.new c ≡ while_there (is_there c (flows_of (state_in self.new))) (count_in self.old c)) }
+        ensures counts { OnOk result ((c : Counter) → count_in self.new c ≡ count_in self.old c) }
+        ensures kept { OnOk result (AreKept self.old → AreKept self.new) }
         ensures stays { OnErr result (self.new ≡ self.old) }
     {
         match self.templates.create_pattern(id, attr, pattern) {
@@ -63,7 +64,8 @@ impl State {
     pub(crate) fn end_pattern(&mut self, id: u16)
         requires { first (pattern_end_refusals (templates_in (state_in self.old)) id) ≡ None }
         ensures state { state_in self.new ≡ with_templates (pattern_gone id) (state_in self.old) }
-        ensures counts { (c : Counter) → count_in self.new c ≡ while_there (is_there c (flows_of (state_in self.new))) (count_in self.old c) }
+        ensures counts { (c : Counter) → count_in self.new c ≡ count_in self.old c }
+        ensures kept { AreKept self.old → AreKept self.new }
     {
         let _ = self.templates.destroy_pattern(id);
     }
@@ -103,7 +105,8 @@ impl State {
         lists: &ActionLists,
     ) -> Result<(), AllocError>
         ensures state { OnOk result (state_in self.new ≡ with_templates (actions_made id lists.now.actions lists.now.masks) (state_in self.old)) }
-        ensures counts { OnOk result ((c : Counter) → count_in self.new c ≡ while_there (is_there c (flows_of (state_in self.new))) (count_in self.old c)) }
+        ensures counts { OnOk result ((c : Counter) → count_in self.new c ≡ count_in self.old c) }
+        ensures kept { OnOk result (AreKept self.old → AreKept self.new) }
         ensures stays { OnErr result (self.new ≡ self.old) }
     {
         match self
@@ -119,7 +122,8 @@ impl State {
     pub(crate) fn end_actions(&mut self, id: u16)
         requires { first (actions_end_refusals (templates_in (state_in self.old)) id) ≡ None }
         ensures state { state_in self.new ≡ with_templates (actions_gone id) (state_in self.old) }
-        ensures counts { (c : Counter) → count_in self.new c ≡ while_there (is_there c (flows_of (state_in self.new))) (count_in self.old c) }
+        ensures counts { (c : Counter) → count_in self.new c ≡ count_in self.old c }
+        ensures kept { AreKept self.old → AreKept self.new }
     {
         let _ = self.templates.destroy_actions(id);
     }
@@ -152,6 +156,7 @@ impl State {
 
     /// Why a table doesn't go, if it doesn't.
     pub(crate) fn table_end_fault(&self, id: u16) -> Option<Fault>
+        requires { AreKept self.now }
         ensures { result ≡ first (table_end_refusals (templates_in (state_in self.now)) id) }
     {
         self.templates.destroy_table_fault(id)
@@ -166,7 +171,8 @@ impl State {
         templates: &TableTemplates,
     ) -> Result<(), AllocError>
         ensures state { OnOk result (state_in self.new ≡ with_templates (table_made id (record { attr = attr.now; patterns = templates.now.patterns.items; actions = templates.now.actions.items; rules_number = rules_number })) (state_in self.old)) }
-        ensures counts { OnOk result ((c : Counter) → count_in self.new c ≡ while_there (is_there c (flows_of (state_in self.new))) (count_in self.old c)) }
+        ensures counts { OnOk result ((c : Counter) → count_in self.new c ≡ count_in self.old c) }
+        ensures kept { OnOk result (AreKept self.old → AreKept self.new) }
         ensures stays { OnErr result (self.new ≡ self.old) }
     {
         match self.templates.create_table(
@@ -183,9 +189,11 @@ impl State {
 
     /// A table goes.
     pub(crate) fn end_table(&mut self, id: u16)
-        requires { first (table_end_refusals (templates_in (state_in self.old)) id) ≡ None }
+        requires kept { AreKept self.old }
+        requires due { first (table_end_refusals (templates_in (state_in self.old)) id) ≡ None }
         ensures state { state_in self.new ≡ with_templates (table_gone id) (state_in self.old) }
-        ensures counts { (c : Counter) → count_in self.new c ≡ while_there (is_there c (flows_of (state_in self.new))) (count_in self.old c) }
+        ensures counts { (c : Counter) → count_in self.new c ≡ count_in self.old c }
+        ensures kept { AreKept self.old → AreKept self.new }
     {
         let _ = self.templates.destroy_table(id);
     }

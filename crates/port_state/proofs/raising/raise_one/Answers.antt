@@ -4,7 +4,7 @@ use Rattle.flow_rules.specs.declared.counter.Counter.TheVariants as counters
 use Rattle.rules_in_effect.specs.declared.in_effect.InEffect.{InEffect}
 use Rattle.indirect_counters.specs.Entries.{Entries}
 use Rattle.port_state.specs.Raising.{Raises, IsKept}
-use Rattle.port_state.proofs.Rises.{Raises-rule, Raises-shared, placed-raised, in_effect-there}
+use Rattle.port_state.proofs.Rises.{Raises-rule, Raises-shared, placed-raised}
 use Rattle.port_state.proofs.raising.raise_one.Goals as goal
 
 pub returns-in-Rule : goal.returns-in-Rule
@@ -24,4 +24,4 @@ returns-in-Shared c =
     let there = subst (λ (n : Counter). IsKept n rules shared) c.in-Shared.is c.requires.there in
     subst (λ (n : Counter). Raises rules shared rules c.raise-in-Shared.new.self.entries (n ∷ []) c.args.bytes) (sym c.in-Shared.is)
     (subst (λ (es : Entries). Raises rules shared rules es (counters.Shared id ∷ []) c.args.bytes) (sym c.raise-in-Shared.ensures.entries)
-    (Raises-shared id c.args.bytes rules shared (in_effect-there id shared there.1)))
+    (Raises-shared id c.args.bytes rules shared there.1))

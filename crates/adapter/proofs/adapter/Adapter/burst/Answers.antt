@@ -27,9 +27,10 @@ loop-packed-preserved c =
       Entering-next at.limits at.changes.list whole c.args.self.now.spare (standing_kept at.standing) at.history c.in-Some.packed c.next.new.self.rest.items
           (standing_kept c.count_frame.new.self) c.add.new.self c.tally-tally.result
           (subst (Entering at.limits at.changes.list whole c.args.self.now.spare (standing_kept at.standing) at.history) left c.loop-packed.invariant.1) c.tally-tally.ensures
-          (subst (λ (ids : List ℕ). Counts (standing_kept at.standing) (standing_kept c.count_frame.new.self) ids c.tally-tally.result.fate c.tally-tally.result.bytes) c.as_slice.ensures.value c.count_frame.ensures)
+          (subst (λ (ids : List ℕ). Counts (standing_kept at.standing) (standing_kept c.count_frame.new.self) ids c.tally-tally.result.fate c.tally-tally.result.bytes) c.as_slice.ensures.value c.count_frame.ensures.counts)
           (c.add.ensures.entries ∙ ap (λ (x : Entry). at.history.entries ++ x ∷ []) c.into_kept.ensures)
           c.add.ensures.spare c.add.ensures.room,
+      c.count_frame.ensures.kept c.loop-packed.invariant.2,
     )
 
 pub returns-clause-entered : goal.returns-clause-entered

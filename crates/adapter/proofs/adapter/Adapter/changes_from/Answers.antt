@@ -10,9 +10,9 @@ use Rattle.adapter.specs.declared.spare.Spare.{Spare}
 use Rattle.flow_rules.specs.declared.limits.Limits.{Limits}
 use Rattle.port_state.specs.Changes.{HasFewActions, changes_of, flows_at}
 use Rattle.adapter.specs.Seen.{Seen}
-use Rattle.adapter.specs.Sound.{AreTold}
+use Rattle.port_state.specs.Changes.{AreTold}
 use Rattle.port_state.specs.State.{flows_of, state_of}
-use Rattle.adapter.proofs.ChangesTold.{flows-from, lawful-from}
+use Rattle.port_state.proofs.ChangesTold.{flows-from, lawful-from}
 use Rattle.adapter.proofs.adapter.Adapter.changes_from.Goals as goal
 
 -- what is handed out, where a list tells the changes of a history

@@ -6,7 +6,7 @@ use Rattle.adapter.proofs.adapter.Adapter.version.Goals as goal
 
 pub returns-clause-number : goal.returns-clause-number
 returns-clause-number c =
-    c.len.ensures ∙ ap length c.self.invariant.1.all ∙ ap (λ (s : Seen). length (changes_of s.limits s.history)) c.self.view_is
+    c.len.ensures.number ∙ ap length c.self.invariant.1.all ∙ ap (λ (s : Seen). length (changes_of s.limits s.history)) c.self.view_is
 
 pub returns-clause-few : goal.returns-clause-few
 returns-clause-few c =

@@ -1,30 +1,15 @@
-use Rattle.std.proofs.Common.{sym, subst, ap, ◌∙◌, map}
-use Rattle.template_tables.specs.TemplatesView.{TemplatesView}
+use Rattle.std.proofs.Common.{refl, ap, ◌∙◌}
+use Rattle.flow_rules.specs.Faults.{first}
+use Rattle.template_tables.specs.Refusals.{actions_end_refusals}
+use Rattle.port_state.specs.KeptState.{KeptState, state_in}
+use Rattle.port_state.specs.State.{templates_in}
+use Rattle.port_state.specs.StateInside.{state_kept}
 use Rattle.port_state.specs.Tables.{actions_gone}
-use Rattle.port_state.specs.KeptState.{placed, plans_of}
-use Rattle.port_state.specs.StateInside.{state_kept, HaveSlots}
-use Rattle.port_state.proofs.TemplatesKept.{changed, at-ok, actions-due}
-use Rattle.port_state.proofs.Carried.{carried-as-they-are}
+use Rattle.port_state.proofs.TemplatesJudged.{actions-end}
+use Rattle.port_state.proofs.TemplatesKept.{gone}
 use Rattle.port_state.proofs.state.State.end_actions.Goals as goal
-
-pub invariant_of-self : goal.invariant_of-self
-invariant_of-self c =
-    let s = c.self.inside in
-    let none = actions-due (state_kept s) _ c.self.view_is c.args.id c.requires in
-    let is = at-ok c.destroy_actions.result _ (c.destroy_actions.ensures.refused ∙ none) c.destroy_actions.ensures.gone in
-    record {
-      in_effect = c.self.invariant.in_effect;
-      on_port = c.self.invariant.on_port;
-      outside = c.self.invariant.outside;
-      slots = subst (λ (t : TemplatesView). HaveSlots (map placed s.rules.list) t.tables) (sym is) c.self.invariant.slots;
-    }
 
 pub returns-clause-state : goal.returns-clause-state
 returns-clause-state c =
-    let s = c.self.inside in
-    let none = actions-due (state_kept s) _ c.self.view_is c.args.id c.requires in
-    let is = at-ok c.destroy_actions.result _ (c.destroy_actions.ensures.refused ∙ none) c.destroy_actions.ensures.gone in
-    changed s _ c.destroy_actions.new.self (actions_gone c.args.id) c.self.view_is (ap plans_of is)
-
-pub returns-clause-counts : goal.returns-clause-counts
-returns-clause-counts c = carried-as-they-are c.self.inside _ c.self.view_is c.self.inside.isolated c.self.inside.rxq c.self.invariant.in_effect
+    let due = actions-end (state_kept c.self.inside) c.args.id ∙ ap (λ (k : KeptState). first (actions_end_refusals (templates_in (state_in k)) c.args.id)) c.self.view_is ∙ c.requires in
+    gone c.self.inside _ c.destroy_actions.result c.destroy_actions.new.self _ (actions_gone c.args.id) c.self.view_is (c.destroy_actions.ensures.refused ∙ due) c.destroy_actions.ensures.gone refl

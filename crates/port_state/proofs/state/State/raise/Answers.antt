@@ -1,14 +1,18 @@
 use Rattle.std.proofs.Common.{◌≡◌, ℕ, ◌≤◌, sym, ap, ◌∙◌, subst, map, flat_map, length, count_by, List}
 use Rattle.flow_rules.specs.declared.counter.Counter.{Counter}
+use Rattle.std.specs.List.{All}
 use Rattle.flow_rules.specs.RuleView.{RuleView}
+use Rattle.flow_rules.specs.Shared.{Shared}
 use Rattle.flow_rules.specs.Naming.{rule_at, namings_at, namings_of, HaveOwnIds}
 use Rattle.rules_in_effect.specs.Entries as rules
 use Rattle.indirect_counters.specs.Entries.{values_in_effect}
-use Rattle.port_state.specs.State.{Placed, flows_of, rule_in}
+use Rattle.port_state.specs.State.{Placed, all_held, flows_of, rule_in}
 use Rattle.port_state.specs.Counters.{counted_more, is_counter}
-use Rattle.port_state.specs.KeptState.{KeptState, state_in, count_in, placed, plans_of}
-use Rattle.port_state.specs.StateInside.{state_kept, AreOutside, HaveSlots}
+use Rattle.port_state.specs.KeptState.{KeptState, state_in, count_in}
+use Rattle.port_state.specs.StateInside.{state_kept, HaveSettled, IsSettled}
+use Rattle.port_state.specs.Kept.{AreKept}
 use Rattle.port_state.specs.Raising.{HasRoomFor}
+use Rattle.port_state.proofs.Rises.{AreKeptFor-raised}
 use Rattle.port_state.proofs.RulesKept.{rules-placed}
 use Rattle.port_state.proofs.state.State.raise.Goals as goal
 
@@ -23,19 +27,29 @@ path-kept kept now same path =
     ∙ ap (λ (k : KeptState). flat_map (namings_at (flows_of (state_in k))) path) same
 
 pub invariant_of-self : goal.invariant_of-self
-invariant_of-self c = record {
-  in_effect = c.raise_all.ensures.raises.in_effect c.self.invariant.in_effect;
-  on_port = c.raise_all.ensures.raises.on_port c.self.inside.rxq c.self.invariant.on_port;
-  outside = subst AreOutside (sym c.raise_all.ensures.raises.rules_same) c.self.invariant.outside;
-  slots = subst (λ (ps : List Placed). HaveSlots ps c.self.inside.templates.tables) (sym c.raise_all.ensures.raises.rules_same) c.self.invariant.slots;
-}
+invariant_of-self c =
+    let templates = c.self.inside.templates in
+    record {
+      on_port = c.raise_all.ensures.raises.on_port c.self.inside.rxq c.self.invariant.on_port;
+      settled = subst (λ (ps : List Placed). All (IsSettled templates) ps) (sym c.raise_all.ensures.raises.rules_same) c.self.invariant.settled;
+      slots = subst (λ (ps : List Placed). HaveSettled ps templates) (sym c.raise_all.ensures.raises.rules_same) c.self.invariant.slots;
+      tables = c.self.invariant.tables;
+      queues = c.self.invariant.queues;
+    }
 
 pub returns-clause-state : goal.returns-clause-state
 returns-clause-state c =
-    let s = c.self.inside in
-    ap (λ (ps : List Placed). record { rules = ps; shared = values_in_effect c.raise_all.new.shared.entries; templates = plans_of s.templates; isolated = s.isolated; ids = s.ids; rxq = s.rxq }) c.raise_all.ensures.raises.rules_same
-    ∙ ap (λ vs. record { rules = map placed s.rules.list; shared = vs; templates = plans_of s.templates; isolated = s.isolated; ids = s.ids; rxq = s.rxq }) c.raise_all.ensures.raises.values_same
+    let s = state_in (state_kept c.self.inside) in
+    ap (λ (ps : List Placed). record s { rules = ps; shared = values_in_effect c.raise_all.new.shared.entries }) c.raise_all.ensures.raises.rules_same
+    ∙ ap (λ (vs : Shared). record s { shared = vs }) c.raise_all.ensures.raises.values_same
     ∙ ap state_in c.self.view_is
+
+pub returns-clause-kept : goal.returns-clause-kept
+returns-clause-kept c = λ kept.
+    let s = c.self.inside in
+    let raises = c.raise_all.ensures.raises in
+    AreKeptFor-raised s.rules.list c.raise_all.new.rules.list s.shared.entries c.raise_all.new.shared.entries _ c.args.bytes raises
+    s.ids s.templates (all_held (state_in (state_kept s))) (subst AreKept (sym c.self.view_is) kept)
 
 pub returns-clause-counts : goal.returns-clause-counts
 returns-clause-counts c = λ c'.

@@ -1,52 +1,63 @@
-use Rattle.std.proofs.Common.{◌≡◌, ℕ, refl, sym, subst, ap, ◌∙◌, map, count_by, false}
+use Rattle.std.proofs.Common.{◌≡◌, ℕ, refl, sym, subst, ap, ◌∙◌, map, count_by, None, Some, IsSome}
 use Rattle.flow_actions.specs.declared.action.Action.{Action}
-use Rattle.flow_rules.specs.Shared.{Shared}
-use Rattle.rules_in_effect.specs.Entries as rules
+use Rattle.flow_rules.specs.Shared.{Shared, IsSharedOn}
 use Rattle.indirect_counters.specs.declared.shared_action.SharedAction.{SharedAction}
-use Rattle.indirect_counters.specs.Entries.{Entries, entry_at, values_in_effect}
-use Rattle.port_state.specs.State.{State, is_user, objects, shared_set}
+use Rattle.indirect_counters.specs.Entries.{Entries, created, entry_at, in_effect_at, values_in_effect}
+use Rattle.indirect_counters.specs.Sound.{AreOn, CanAdd}
+use Rattle.port_state.specs.declared.held.Held.{Held}
+use Rattle.port_state.specs.declared.held.Held.TheVariants as held
+use Rattle.port_state.specs.Kept.{AreKept, AreKeptFor}
 use Rattle.port_state.specs.KeptState.{KeptState, state_in, placed, plans_of}
-use Rattle.port_state.specs.StateInside.{state_kept, AreInEffect}
-use Rattle.std.proofs.lemmas.List.Elements.{All-push}
-use Rattle.flow_rules.specs.Shared.{IsSharedOn}
-use Rattle.indirect_counters.specs.Sound.{CanAdd, AreOn}
+use Rattle.port_state.specs.State.{all_held, shared_gone, shared_set}
+use Rattle.port_state.specs.StateInside.{state_kept}
+use Rattle.port_state.proofs.Parts.{with_parts}
+use Rattle.indirect_counters.specs.Effects.{added}
 use Rattle.indirect_counters.proofs.Effects.{values-added}
 use Rattle.indirect_counters.proofs.Lawful.{AreOn-added}
-use Rattle.port_state.proofs.Objects.{CanAdd-entries}
-use Rattle.port_state.proofs.Carried.{carried, CarriesShared, same_rule, added_shared}
+use Rattle.port_state.proofs.Carried.{carried-shared, CarriesShared, added_shared}
+use Rattle.port_state.proofs.SharedHeld.{shared-kept}
+use Rattle.std.proofs.Common.{nat_eq, false}
+use Rattle.std.specs.List.{IsDistinct}
+use Rattle.std.specs.Map.{keys_of}
 use Rattle.port_state.proofs.state.State.share.Goals as goal
 
-can : (kept old : KeptState) → kept ≡ old → AreInEffect kept.shared → (id : ℕ) (action : Action) → CanAdd id action (objects (state_in old)) → CanAdd id action kept.shared
-can kept old same all id action free =
-    CanAdd-entries (λ k. count_by (is_user k) (map placed kept.rules)) kept.shared all id action (subst (λ (k : KeptState). CanAdd id action (objects (state_in k))) (sym same) free)
-
 pub add-requires-clause-fine : goal.add-requires-clause-fine
-add-requires-clause-fine c = can (state_kept c.self.inside) _ c.self.view_is c.self.invariant.in_effect c.args.id c.args.action.now c.requires.free
+add-requires-clause-fine c = subst (λ (k : KeptState). CanAdd c.args.id c.args.action.now k.shared) (sym c.self.view_is) c.requires.free
 
 pub invariant_of-self : goal.invariant_of-self
 invariant_of-self c =
     let s = c.self.inside in
     let on : IsSharedOn s.rxq c.args.action.now = subst (λ (k : KeptState). IsSharedOn k.rxq c.args.action.now) (sym c.self.view_is) c.requires.lawful in
     record {
-      in_effect = subst AreInEffect (sym c.add.ensures.entries) (All-push (λ (entry : ℕ × SharedAction). entry.1.held ≡ false) s.shared.entries _ c.self.invariant.in_effect refl);
       on_port = subst (AreOn s.rxq) (sym c.add.ensures.entries) (AreOn-added s.rxq c.args.id c.args.action.now false s.shared.entries on c.self.invariant.on_port);
-      outside = c.self.invariant.outside;
+      settled = c.self.invariant.settled;
       slots = c.self.invariant.slots;
+      queues = c.self.invariant.queues;
+      tables = c.self.invariant.tables;
     }
 
 pub returns-clause-state : goal.returns-clause-state
 returns-clause-state c =
     let s = c.self.inside in
-    let with_shared' : Shared → State = λ vs. record { rules = map placed s.rules.list; shared = vs; templates = plans_of s.templates; isolated = s.isolated; ids = s.ids; rxq = s.rxq } in
+    let free = (subst (λ (k : KeptState). CanAdd c.args.id c.args.action.now k.shared) (sym c.self.view_is) c.requires.free).free in
+    let with_shared' : Shared → _ = λ vs. with_parts s (map placed s.rules.list) vs (plans_of s.templates) in
     ap (λ es. with_shared' (values_in_effect es)) c.add.ensures.entries
-    ∙ ap with_shared' (values-added c.args.id c.args.action.now s.shared.entries (can (state_kept s) _ c.self.view_is c.self.invariant.in_effect c.args.id c.args.action.now c.requires.free).free)
+    ∙ ap with_shared' (values-added c.args.id c.args.action.now s.shared.entries free)
     ∙ ap (λ (k : KeptState). shared_set c.args.id c.args.action.now (state_in k)) c.self.view_is
 
 pub returns-clause-counts : goal.returns-clause-counts
 returns-clause-counts c =
     let s = c.self.inside in
-    carried (state_kept s) _ c.self.view_is s.rules.list c.add.new.self.entries s.isolated s.rxq
-    (subst AreInEffect (sym c.add.ensures.entries) (All-push (λ (entry : ℕ × SharedAction). entry.1.held ≡ false) s.shared.entries _ c.self.invariant.in_effect refl))
-    (λ q. same_rule (rules.entry_at q s.rules.list))
-    (λ q. subst (λ (es : Entries). CarriesShared (entry_at q s.shared.entries) (entry_at q es)) (sym c.add.ensures.entries)
-    (added_shared c.args.id q c.args.action.now s.shared.entries (can (state_kept s) _ c.self.view_is c.self.invariant.in_effect c.args.id c.args.action.now c.requires.free).free))
+    let free = (subst (λ (k : KeptState). CanAdd c.args.id c.args.action.now k.shared) (sym c.self.view_is) c.requires.free).free in
+    carried-shared s _ c.self.view_is c.add.new.self.entries s.isolated s.rxq c.len-behind.ensures.sound.ids
+    (λ q. subst (λ (es : Entries). CarriesShared (in_effect_at q s.shared.entries) (in_effect_at q es)) (sym c.add.ensures.entries)
+    (added_shared c.args.id q c.args.action.now false s.shared.entries free))
+
+pub returns-clause-kept : goal.returns-clause-kept
+returns-clause-kept c = λ kept.
+    let s = c.self.inside in
+    let free = (subst (λ (k : KeptState). CanAdd c.args.id c.args.action.now k.shared) (sym c.self.view_is) c.requires.free).free in
+    let ops = all_held (state_in (state_kept s)) in
+    subst (λ (es : Entries). AreKeptFor s.ids s.templates es ops) (sym c.add.ensures.entries)
+    (shared-kept s.ids c.args.id c.args.action.now s.templates s.shared.entries ops c.len-before.ensures.sound.ids
+    (subst (λ (es : Entries). IsDistinct nat_eq (keys_of es)) c.add.ensures.entries c.len-behind.ensures.sound.ids) free (subst AreKept (sym c.self.view_is) kept))

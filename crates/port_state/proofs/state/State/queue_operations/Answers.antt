@@ -1,0 +1,19 @@
+use Rattle.std.proofs.Common.{◌≡◌, ◌<◌, ◌+◌, ℕ, Bool, true, false, length, None, subst, sym, ap, ◌∙◌}
+use Rattle.port_state.specs.declared.effect.QueueEffect.{QueueEffect}
+use Rattle.port_state.specs.declared.effect.QueueEffect.TheVariants as queues
+use Rattle.port_state.specs.Effect.{AreQueuesDue, enqueued_operations, queue_operations}
+use Rattle.port_state.specs.KeptState.{state_in}
+use Rattle.port_state.proofs.QueuesRead.{queue-there}
+use Rattle.port_state.proofs.Places.{no-first}
+use Rattle.port_state.proofs.state.State.queue_operations.Goals as goal
+
+pub held_number-requires : goal.held_number-requires
+held_number-requires c =
+    let s = state_in c.args.self.now in
+    let due = subst (AreQueuesDue s) c.in-Enqueued.is c.requires in
+    queue-there s c.in-Enqueued.queue (no-first _ _ due.0)
+
+pub held_number-requires-in-Pushed : goal.held_number-requires-in-Pushed
+held_number-requires-in-Pushed c =
+    let s = state_in c.args.self.now in
+    queue-there s c.in-Pushed.queue (subst (AreQueuesDue s) c.in-Pushed.is c.requires)
