@@ -9,6 +9,7 @@ pub mod Opening
 pub mod Parts
 pub mod Places
 pub mod Plans
+pub mod Pushing
 pub mod QueueParts
 pub mod QueuesRead
 pub mod Rises
