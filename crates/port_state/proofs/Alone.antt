@@ -1,19 +1,16 @@
 -- Nothing is held for the id of a rule, or of a shared action, that is in effect.
-use Rattle.std.proofs.Common.{◌≡◌, ℕ, ◌+◌, ◌&&◌, Bool, true, false, cond, nat_eq, is_some, map, List, [], ◌∷◌, None, Some, IsSome, Option, refl, sym, ap, ◌∙◌, subst, arith, true≢false}
+use Rattle.std.proofs.Common.{◌≡◌, ℕ, ◌&&◌, Bool, true, false, cond, nat_eq, is_some, map, List, [], ◌∷◌, None, Some, IsSome, Option, refl, sym, ap, ◌∙◌, arith, true≢false}
 use Rattle.std.specs.List.{IsDistinct, list_any, count_by}
 use Rattle.std.specs.Map.{keys_of}
 use Rattle.std.specs.Option.{option_map}
-use Rattle.std.proofs.lemmas.List.Sums.{sum_by-cons}
-use Rattle.flow_rules.specs.RuleView.{RuleView}
-use Rattle.flow_rules.specs.Changes.{has_id}
 use Rattle.flow_rules.specs.Naming.{rule_at}
 use Rattle.flow_rules.specs.Shared.{shared_at}
 use Rattle.indirect_counters.specs.declared.shared_action.SharedAction.{SharedAction}
-use Rattle.indirect_counters.specs.Entries.{in_effect_at, values_in_effect}
+use Rattle.indirect_counters.specs.Entries.{in_effect_at}
 use Rattle.indirect_counters.proofs.Effects.{seen-at}
 use Rattle.port_state.specs.Apart.{AreApart, is_rule, is_held_rule, is_held_shared}
 use Rattle.port_state.specs.KeptState.{KeptState, state_in}
-use Rattle.port_state.specs.State.{Placed, State, all_held, is_in_effect, is_plain_of, rule_in}
+use Rattle.port_state.specs.State.{Placed, State, all_held, rule_in}
 use Rattle.port_state.proofs.ApartKept.{fresh-rules, some-counted}
 use Rattle.port_state.proofs.Settling.{count-cons}
 

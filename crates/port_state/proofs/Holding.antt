@@ -1,15 +1,14 @@
 -- What the code keeps as an operation is held, and as the order of those that are held is another.
-use Rattle.std.proofs.Common.{◌≡◌, ℕ, ◌+◌, ◌++◌, ◌<◌, ◌||◌, Bool, true, false, cond, nat_eq, nat_lt, map, length, is_some, List, [], ◌∷◌, Option, None, Some, IsSome, refl, sym, ap, ◌∙◌, subst, arith, zero-add}
-use Rattle.std.specs.List.{All, IsDistinct, count_by}
-use Rattle.std.specs.Map.{keys_of, lookup}
+use Rattle.std.proofs.Common.{◌≡◌, ℕ, ◌+◌, ◌++◌, ◌||◌, Bool, true, false, cond, nat_eq, nat_lt, length, is_some, List, [], ◌∷◌, Option, None, Some, refl, sym, ap, ◌∙◌, subst, arith, zero-add}
+use Rattle.std.specs.List.{All, count_by}
+use Rattle.std.specs.Map.{lookup}
 use Rattle.std.specs.Option.{option_map}
-use Rattle.std.proofs.lemmas.Bool.{eqb-true, eq-eqb}
+use Rattle.std.proofs.lemmas.Bool.{eq-eqb}
 use Rattle.std.proofs.lemmas.List.{length-append}
 use Rattle.std.proofs.lemmas.List.Sums.{sum_by-append}
 use Rattle.std.proofs.lemmas.List.Elements.{All-nil, All-cons, All-head, All-tail, All-push}
 use Rattle.flow_rules.specs.RuleView.{RuleView}
 use Rattle.flow_rules.specs.Shared.{shared_at}
-use Rattle.object_ids.specs.Ids.{is_used}
 use Rattle.indirect_counters.specs.Entries.{Entries, values_in_effect}
 use Rattle.template_tables.specs.TableView.{TableView}
 use Rattle.template_tables.specs.TemplatesView.{TemplatesView, table_of, with_table}
@@ -18,7 +17,7 @@ use Rattle.port_state.specs.declared.held.Held.{Held}
 use Rattle.port_state.specs.declared.held.Held.TheVariants as held
 use Rattle.port_state.specs.Apart.{is_held_shared, is_shared_creation}
 use Rattle.port_state.specs.Kept.{is_held_in, is_reserved, IsGiven, IsReserved, IsReservedFor, HasReserved, IsHeldIn, AreKeptFor}
-use Rattle.port_state.specs.State.{Placed, stands_in}
+use Rattle.port_state.specs.State.{Placed}
 use Rattle.port_state.specs.StateInside.{HasSettled, HaveSettled, IsSettled, IsSettledAt, IsSettledIn}
 use Rattle.port_state.proofs.Settling.{count-cons, later, given-later}
 use Rattle.port_state.proofs.Slots.{have-with, table_of-with, lookup-last, lookup-pushed, none-above}

@@ -1,5 +1,5 @@
 -- The shared actions that the code keeps are judged as those of the state are: the same ids are in use, and the same values in effect.
-use Rattle.std.proofs.Common.{◌≡◌, ◌<◌, ℕ, zero, suc, ◌+◌, ◌++◌, ◌||◌, nat_lt, zero-add, arith, Bool, true, false, cond, nat_eq, map, length, is_some, flat_map, List, [], ◌∷◌, Option, None, Some, IsSome, refl, sym, ap, ◌∙◌}
+use Rattle.std.proofs.Common.{◌≡◌, ℕ, zero, suc, ◌+◌, ◌++◌, ◌||◌, nat_lt, zero-add, arith, Bool, true, false, cond, nat_eq, map, length, is_some, flat_map, List, [], ◌∷◌, Option, None, Some, IsSome, refl, sym, ap, ◌∙◌}
 use Rattle.std.specs.List.{list_any, count_by, filter_map, cons_option, IsDistinct}
 use Rattle.std.specs.Map.{keys_of}
 use Rattle.std.specs.Option.{option_map, is_none}
@@ -20,7 +20,7 @@ use Rattle.object_ids.specs.Ids.{id_for, is_used}
 use Rattle.op_queues.specs.OpQueue.{Queue}
 use Rattle.indirect_counters.specs.declared.shared_action.SharedAction.{SharedAction}
 use Rattle.indirect_counters.specs.Counts.{no_count}
-use Rattle.indirect_counters.specs.Entries.{Entries, entry_at, if_in_effect, in_effect_at, value_at, values_in_effect}
+use Rattle.indirect_counters.specs.Entries.{Entries, entry_at, if_in_effect, in_effect_at, value_at}
 use Rattle.indirect_counters.specs.Sound.{CanAdd}
 use Rattle.indirect_counters.specs.Refusals.{create_fault, update_fault, has_users, destroy_fault}
 use Rattle.indirect_counters.proofs.Effects.{seen-at}

@@ -1,5 +1,5 @@
 -- Why a bound rule isn't created: no slot is free, or no id.
-use Rattle.std.proofs.Common.{◌≡◌, ◌<◌, ◌+◌, ◌^◌, ◌-◌, ℕ, Bool, true, false, cond, nat_eq, nat_le, length, Option, None, Some, IsSome, IfSome, refl, sym, ap, ◌∙◌, subst, arith}
+use Rattle.std.proofs.Common.{◌≡◌, ◌<◌, ◌+◌, ◌^◌, ◌-◌, ℕ, Bool, true, false, cond, nat_le, length, Option, None, Some, IsSome, IfSome, refl, ap, ◌∙◌, subst, arith}
 use Rattle.std.specs.Prelude.{Result, Ok, Err, IfOk}
 use Rattle.std.proofs.lemmas.Bool.{eq-eqb, ne_eqb, leb-false}
 use Rattle.flow_rules.specs.declared.fault.Fault.{Fault}

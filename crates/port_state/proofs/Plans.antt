@@ -4,7 +4,7 @@ use Rattle.std.specs.List.{IsDistinct}
 use Rattle.std.specs.Map.{keys_of, lookup, set_value}
 use Rattle.template_tables.specs.TableView.{TableView}
 use Rattle.template_tables.specs.TemplatesView.{TemplatesView, table_of, changed_if, with_table}
-use Rattle.port_state.specs.Tables.{Table, Templates}
+use Rattle.port_state.specs.Tables.{Table}
 use Rattle.port_state.specs.KeptState.{plan_of, plans_of}
 
 -- a change that leaves the plan of a table

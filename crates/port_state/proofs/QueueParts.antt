@@ -1,5 +1,5 @@
 -- One queue of a state among the others.
-use Rattle.std.proofs.Common.{◌≡◌, ℕ, ◌+◌, ◌<◌, ◌++◌, ◌∷◌, [], nat_eq, Bool, true, false, true≢false, None, cond, map, length, List, slice_set, get_or, drop, refl, sym, ap, ◌∙◌, subst, arith}
+use Rattle.std.proofs.Common.{◌≡◌, ℕ, ◌<◌, ◌∷◌, nat_eq, Bool, true, false, true≢false, None, map, length, List, slice_set, get_or, refl, sym, ap, ◌∙◌, subst, arith}
 use Rattle.std.specs.Prelude.{Result, Ok, Err, OnOk, IsErr}
 use Rattle.std.specs.List.{All, count_by}
 use Rattle.std.proofs.lemmas.Bool.{eq-eqb}
@@ -15,7 +15,7 @@ use Rattle.template_tables.specs.TemplatesView.{TemplatesView}
 use Rattle.port_state.specs.declared.held.Held.{Held}
 use Rattle.port_state.specs.declared.state.State.TheInside.{Inside}
 use Rattle.port_state.specs.Kept.{AreKeptFor}
-use Rattle.port_state.specs.KeptState.{KeptState, state_in}
+use Rattle.port_state.specs.KeptState.{state_in}
 use Rattle.port_state.specs.Queue.{FlowQueue, empty_queue, in_flight}
 use Rattle.port_state.specs.State.{State, admitted, all_held, full_fault, queue_at, queue_fault, waiting, with_queue}
 use Rattle.port_state.specs.StateInside.{state_kept, IsQueue, queue_of}

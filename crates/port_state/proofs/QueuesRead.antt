@@ -1,16 +1,15 @@
 -- The flow queues that the code keeps, and those of the state.
-use Rattle.std.proofs.Common.{◌≡◌, ◌<◌, ◌≤◌, ◌+◌, ℕ, Bool, true, false, cond, nat_eq, nat_le, map, length, get_or, List, Option, None, Some, refl, sym, ap, ◌∙◌, subst, arith}
+use Rattle.std.proofs.Common.{◌≡◌, ◌<◌, ◌≤◌, ◌+◌, ℕ, Bool, true, false, nat_eq, nat_le, map, length, get_or, List, None, Some, refl, ap, ◌∙◌, arith}
 use Rattle.std.specs.List.{All}
 use Rattle.std.proofs.lemmas.Bool.{le-leb, lt-leb, leb-false, eq-eqb, ne_eqb}
 use Rattle.std.proofs.lemmas.List.{get_or-map, length-map}
 use Rattle.std.proofs.lemmas.List.Elements.{All-get_or}
-use Rattle.flow_rules.specs.declared.fault.Fault.{Fault}
 use Rattle.flow_rules.specs.declared.fault.Cause.TheVariants as causes
 use Rattle.flow_rules.specs.Faults.{fault_if, first}
 use Rattle.op_queues.specs.OpQueue.{Queue}
 use Rattle.op_queues.specs.OpQueue as op_queues
 use Rattle.port_state.specs.declared.held.Held.{Held}
-use Rattle.port_state.specs.Queue.{FlowQueue, empty_queue, in_flight}
+use Rattle.port_state.specs.Queue.{empty_queue, in_flight}
 use Rattle.port_state.specs.State.{State, first_of, full_fault, plain, queue_at, queue_fault}
 use Rattle.port_state.specs.declared.state.State.TheInside.{Inside}
 use Rattle.port_state.specs.KeptState.{KeptState, state_in}

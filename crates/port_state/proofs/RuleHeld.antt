@@ -1,7 +1,6 @@
 -- What holding the creation of a bound rule comes to.
-use Rattle.std.proofs.Common.{◌≡◌, ℕ, Bool, List, [], Option, None, Some, IsSome, IfSome, ap}
+use Rattle.std.proofs.Common.{◌≡◌, ℕ, Bool, [], Option, None, Some, IsSome, IfSome, ap}
 use Rattle.flow_rules.specs.RuleView.{RuleView}
-use Rattle.flow_rules.specs.declared.change.Change.{Change}
 use Rattle.flow_rules.specs.declared.fault.Fault.{Fault}
 use Rattle.flow_rules.specs.declared.limits.Limits.{Limits}
 use Rattle.flow_rules.specs.declared.spec.RuleSpec.{RuleSpec}

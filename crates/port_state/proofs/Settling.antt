@@ -1,7 +1,7 @@
 -- What the code keeps for tables and for held operations, as rules of tables come and go.
-use Rattle.std.proofs.Common.{◌≡◌, ℕ, ◌+◌, ◌++◌, ◌<◌, ◌≤◌, not, Bool, true, false, cond, nat_eq, map, filter, length, is_some, List, [], ◌∷◌, Option, None, Some, IsSome, refl, sym, ap, ◌∙◌, subst, arith, true≢false, zero-add, drop, slice_get}
+use Rattle.std.proofs.Common.{◌≡◌, ℕ, ◌+◌, ◌++◌, ◌<◌, not, Bool, true, false, cond, nat_eq, map, length, is_some, List, [], ◌∷◌, Option, None, Some, refl, sym, ap, ◌∙◌, subst, arith, zero-add, drop, slice_get}
 use Rattle.std.specs.List.{All, IsDistinct, count_by}
-use Rattle.std.specs.Map.{keys_of, lookup, remove_entry, set_value}
+use Rattle.std.specs.Map.{keys_of, lookup, remove_entry}
 use Rattle.std.specs.Option.{option_map}
 use Rattle.std.proofs.lemmas.Bool.{eqb-true, eq-eqb}
 use Rattle.std.proofs.lemmas.List.Sums.{sum_by-cons, sum_by-append}
@@ -27,7 +27,7 @@ use Rattle.port_state.specs.State.{Placed, rule_in, stands_in, is_table}
 use Rattle.port_state.specs.Freed.{freed_all, freed_by}
 use Rattle.port_state.proofs.Plans.{plans-with, tables-with}
 use Rattle.port_state.specs.StateInside.{HasSettled, HaveSettled, IsSettled, IsSettledAt, IsSettledIn}
-use Rattle.port_state.proofs.Slots.{have-with, table_of-with, settling, IsSettling, freeing, IsFreeing, freed-others, freed-given, freed-greatest, lookup-others, All-keys-written}
+use Rattle.port_state.proofs.Slots.{have-with, table_of-with, settling, freeing, freed-others, freed-given, freed-greatest, lookup-others, All-keys-written}
 
 -- counted with one more, behind or in front
 count_by-push : {A : Type 0} (test : A → Bool) (xs : List A) (x : A) → count_by test (xs ++ x ∷ []) ≡ count_by test xs + cond (test x) 1 0

@@ -1,5 +1,5 @@
 -- What the code keeps for held operations, as shared actions come and go.
-use Rattle.std.proofs.Common.{◌≡◌, ℕ, suc, ◌+◌, ◌++◌, ◌||◌, ◌<◌, Bool, true, false, cond, nat_eq, nat_lt, length, is_some, List, [], ◌∷◌, Option, None, Some, IsSome, refl, sym, ap, ◌∙◌, subst, arith, true≢false}
+use Rattle.std.proofs.Common.{◌≡◌, ℕ, suc, ◌+◌, ◌++◌, ◌||◌, Bool, true, false, cond, nat_eq, nat_lt, length, is_some, List, [], ◌∷◌, Option, None, Some, IsSome, refl, sym, ap, ◌∙◌, subst, arith, true≢false}
 use Rattle.std.specs.List.{All, IsDistinct, count_by}
 use Rattle.std.specs.Map.{keys_of}
 use Rattle.std.specs.Option.{option_map}
@@ -19,7 +19,7 @@ use Rattle.indirect_counters.proofs.Lawful.{length-activated, length-changed_at,
 use Rattle.port_state.specs.declared.held.Held.{Held}
 use Rattle.port_state.specs.declared.held.Held.TheVariants as held
 use Rattle.port_state.specs.Apart.{is_held_shared, is_shared_creation}
-use Rattle.port_state.specs.Kept.{is_held_in, HasReserved, IsHeldIn, IsReservedFor, AreKeptFor}
+use Rattle.port_state.specs.Kept.{is_held_in, HasReserved, IsHeldIn, AreKeptFor}
 use Rattle.port_state.proofs.Settling.{count-cons, none-first}
 
 -- an id is in use where an action stands there in effect, or its creation is held

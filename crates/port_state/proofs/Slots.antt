@@ -1,23 +1,16 @@
 -- The slots of tables: as a rule takes effect in its table, as it goes, and as a slot is reserved.
-use Rattle.std.proofs.Common.{◌≡◌, ℕ, zero, suc, ◌+◌, ◌++◌, ◌<◌, not, Bool, true, false, cond, nat_eq, map, filter, length, is_some, List, [], ◌∷◌, Option, None, Some, IsSome, refl, sym, ap, ◌∙◌, subst, arith, zero-add, true≢false}
+use Rattle.std.proofs.Common.{◌≡◌, ℕ, suc, ◌+◌, ◌++◌, ◌<◌, not, Bool, true, false, cond, nat_eq, length, is_some, List, [], ◌∷◌, Option, None, Some, refl, sym, ap, ◌∙◌, subst, arith}
 use Rattle.std.specs.List.{All, count_by}
 use Rattle.std.specs.Map.{lookup, remove_entry, set_value}
 use Rattle.std.specs.Option.{option_map}
 use Rattle.std.proofs.lemmas.Bool.{eqb-true, eq-eqb}
-use Rattle.std.proofs.lemmas.List.Sums.{sum_by-cons, sum_by-append}
-use Rattle.std.proofs.lemmas.List.Elements.{All-nil, All-cons, All-head, All-tail, All-append}
+use Rattle.std.proofs.lemmas.List.Sums.{sum_by-cons}
+use Rattle.std.proofs.lemmas.List.Elements.{All-cons, All-head, All-tail}
 use Rattle.flow_rules.specs.RuleView.{RuleView}
-use Rattle.flow_rules.specs.Naming.{rule_at}
 use Rattle.template_tables.specs.TableView.{TableView}
 use Rattle.template_tables.specs.TemplatesView.{TemplatesView, table_of, changed_if, with_table}
-use Rattle.template_tables.specs.Slots.{reserved, settled, settled_in, rule_of_slot, freed}
-use Rattle.indirect_counters.specs.Entries.{Entries}
-use Rattle.port_state.specs.declared.held.Held.{Held}
-use Rattle.port_state.specs.declared.held.Held.TheVariants as held
-use Rattle.port_state.specs.Apart.{is_held_rule}
-use Rattle.port_state.specs.Kept.{is_reserved, is_held_in, IsGiven, IsReserved, IsHeldIn}
-use Rattle.port_state.specs.State.{Placed, rule_in}
-use Rattle.port_state.specs.StateInside.{IsSettled, IsSettledAt, IsSettledIn}
+use Rattle.template_tables.specs.Slots.{settled, settled_in, rule_of_slot, freed}
+use Rattle.port_state.specs.Kept.{is_reserved, IsGiven}
 
 -- keys that differ
 keys-apart : (id q k : ℕ) → nat_eq q id ≡ false → nat_eq id k ≡ true → nat_eq q k ≡ false

@@ -1,36 +1,31 @@
 -- The oldest operation of a queue, as it takes effect or fails.
-use Rattle.std.proofs.Common.{◌≡◌, ℕ, ◌+◌, ◌<◌, ◌∷◌, [], ◌++◌, Bool, true, false, cond, nat_eq, drop, length, is_some, map, List, Option, None, Some, IsSome, refl, sym, ap, ◌∙◌, subst, arith, true≢false}
-use Rattle.std.specs.List.{All, IsDistinct, count_by, list_any}
+use Rattle.std.proofs.Common.{◌≡◌, ℕ, ◌∷◌, [], ◌++◌, Bool, true, false, cond, nat_eq, drop, List, Option, None, Some, refl, sym, ap, ◌∙◌, subst, arith, true≢false}
+use Rattle.std.specs.List.{All, IsDistinct, count_by}
 use Rattle.std.specs.Map.{keys_of}
 use Rattle.std.specs.Option.{is_none}
 use Rattle.std.proofs.lemmas.Bool.{eq-eqb}
-use Rattle.flow_rules.specs.declared.change.Change.{Change}
-use Rattle.flow_rules.specs.declared.fault.Fault.{Fault}
-use Rattle.flow_rules.specs.Changes.{changed}
-use Rattle.flow_rules.specs.Naming.{rule_at}
 use Rattle.flow_rules.specs.declared.counter.Counter.{Counter}
 use Rattle.flow_rules.specs.declared.counter.Count.{Count}
 use Rattle.indirect_counters.specs.Refusals.{update_fault, destroy_fault}
 use Rattle.indirect_counters.specs.Entries.{Entries}
-use Rattle.template_tables.specs.TemplatesView.{TemplatesView, table_of}
+use Rattle.template_tables.specs.TemplatesView.{TemplatesView}
 use Rattle.port_state.specs.declared.held.Held.{Held}
 use Rattle.port_state.specs.declared.held.Held.TheVariants as held
-use Rattle.port_state.specs.Apart.{AreApart, IsAlone, IsFit, is_rule, is_held_rule}
-use Rattle.port_state.specs.Changes.{change_of, changes_at, changes_first, step_first}
+use Rattle.port_state.specs.Apart.{AreApart, IsFit, is_rule, is_held_rule}
+use Rattle.port_state.specs.Changes.{change_of, changes_first, step_first}
 use Rattle.port_state.specs.Counters.{carried, is_there, while_there}
-use Rattle.port_state.specs.Kept.{AreKept, AreKeptFor, IsHeldIn}
+use Rattle.port_state.specs.Kept.{AreKeptFor, IsHeldIn}
 use Rattle.port_state.specs.KeptState.{KeptState, state_in}
 use Rattle.port_state.specs.Queue.{FlowQueue}
 use Rattle.port_state.specs.Ready.{IsReady}
-use Rattle.port_state.specs.State.{State, all_held, flows_of, has_kind_of, objects, queue_at, rule_in, stepped, succeeds, taken, with_queue}
+use Rattle.port_state.specs.State.{State, all_held, flows_of, objects, queue_at, succeeds, taken, with_queue}
 use Rattle.port_state.proofs.Alone.{no-rule}
-use Rattle.port_state.proofs.ApartKept.{IsAlone-first}
 use Rattle.port_state.proofs.FlowsBehind.{flows-taken}
 use Rattle.port_state.proofs.Holding.{kept-same, kept-without}
 use Rattle.port_state.proofs.Objects.{destroy-there, objects-update}
 use Rattle.port_state.proofs.Settling.{count-cons}
 use Rattle.port_state.proofs.Succeeds.{update-succeeds}
-use Rattle.port_state.proofs.Waiting.{all-at, all-with_queue, AreBehind, behind-with_queue, queues-taken, there-held}
+use Rattle.port_state.proofs.Waiting.{all-at, all-with_queue, AreBehind, behind-with_queue}
 use Rattle.std.proofs.lemmas.List.Elements.{All-cons, All-head, All-tail}
 
 -- the queue behind its first operation, which succeeded or not

@@ -1,10 +1,9 @@
 -- When an operation succeeds.
-use Rattle.std.proofs.Common.{◌≡◌, ◌+◌, ◌++◌, ℕ, Bool, true, false, not, List, [], Option, None, Some, refl, sym, ap, ◌∙◌}
+use Rattle.std.proofs.Common.{◌≡◌, ◌+◌, ◌++◌, ℕ, Bool, true, false, not, [], Option, None, Some, refl, ap, ◌∙◌}
 use Rattle.std.specs.List.{count_by}
 use Rattle.std.specs.Option.{is_none, option_map}
 use Rattle.flow_actions.specs.declared.action.Action.{Action}
 use Rattle.flow_actions.specs.Kinds.{kind_of, is_shareable}
-use Rattle.flow_rules.specs.declared.fault.Fault.{Fault}
 use Rattle.flow_rules.specs.declared.fault.Cause.TheVariants as causes
 use Rattle.flow_rules.specs.Faults.{fault_if, first, is_bad, is_count}
 use Rattle.flow_rules.specs.Shared.{shared_at}

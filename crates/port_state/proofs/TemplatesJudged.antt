@@ -1,5 +1,5 @@
 -- The templates and tables that the code keeps are judged as those of the state are: as many slots of a table are taken.
-use Rattle.std.proofs.Common.{◌≡◌, ℕ, suc, ◌+◌, ◌++◌, ◌||◌, not, nat_lt, nat_le, Bool, true, false, cond, nat_eq, map, filter, length, is_some, List, [], ◌∷◌, Option, None, Some, IsSome, refl, sym, ap, ◌∙◌, subst}
+use Rattle.std.proofs.Common.{◌≡◌, ℕ, suc, ◌+◌, ◌++◌, ◌||◌, not, nat_lt, Bool, true, false, cond, nat_eq, map, filter, length, is_some, List, [], ◌∷◌, Option, None, Some, IsSome, refl, sym, ap, ◌∙◌}
 use Rattle.std.specs.List.{list_any, count_by, filter_map}
 use Rattle.std.specs.Map.{lookup, values_of}
 use Rattle.std.specs.Option.{option_map}
@@ -23,7 +23,7 @@ use Rattle.template_tables.specs.Refusals.{rules_of, is_out_of_range, is_any_mis
 use Rattle.port_state.specs.declared.held.Held.{Held}
 use Rattle.port_state.specs.declared.held.Held.TheVariants as held
 use Rattle.port_state.specs.Kept.{AreKept, HasReserved, IsReservedFor, is_held_in, is_reserved}
-use Rattle.port_state.specs.KeptState.{KeptState, placed, plan_of, state_in}
+use Rattle.port_state.specs.KeptState.{KeptState, plan_of, state_in}
 use Rattle.port_state.specs.State.{Placed, all_held, held_slot, slot_of, stands_in, table_in, templates_in}
 use Rattle.port_state.specs.StateInside.{HasSettled, HaveSettled}
 use Rattle.object_ids.proofs.Alike.{id_for-alike, id_faults-alike}

@@ -1,10 +1,9 @@
 -- What an accepted call does, as the code hands it on.
-use Rattle.std.specs.Prelude.{◌≡◌, ℕ, ◌+◌, ◌<◌, ◌^◌, ◌-◌, Bool, true, false, List, [], ◌∷◌, map, length, None, IsSome}
+use Rattle.std.specs.Prelude.{◌≡◌, ℕ, ◌+◌, ◌<◌, ◌^◌, ◌-◌, Bool, true, false, List, [], ◌∷◌, length, None, IsSome}
 use Rattle.flow_rules.specs.declared.change.Change.{Change}
 use Rattle.flow_rules.specs.declared.change.Change.TheVariants as changes
 use Rattle.flow_rules.specs.Faults.{first}
 use Rattle.flow_rules.specs.Shared.{IsSharedOn}
-use Rattle.flow_rules.specs.Naming.{rule_at}
 use Rattle.indirect_counters.specs.Sound.{CanAdd}
 use Rattle.indirect_counters.specs.Refusals as shared_calls
 use Rattle.template_tables.specs.Refusals.{pattern_end_refusals, actions_end_refusals, table_end_refusals}
@@ -21,7 +20,7 @@ use Rattle.port_state.specs.declared.effect.QueueEffect.TheVariants as queues
 use Rattle.port_state.specs.declared.held.Held.{Held}
 use Rattle.port_state.specs.declared.held.Held.TheVariants as held
 use Rattle.port_state.specs.Changes.{changes_enqueued, changes_pushed}
-use Rattle.port_state.specs.State.{State, is_in_effect, rule_in, objects, created, destroyed, flushed, isolated, shared_set, shared_gone, templates_in, with_templates, queue_at, queue_fault, full_fault, queued_update_fault, configure_refusals, configured, enqueued, pushed, pulled}
+use Rattle.port_state.specs.State.{State, is_in_effect, objects, created, destroyed, flushed, isolated, shared_set, shared_gone, templates_in, with_templates, queue_at, queue_fault, full_fault, queued_update_fault, configure_refusals, configured, enqueued, pushed, pulled}
 use Rattle.port_state.specs.Tables.{Templates, pattern_made, actions_made, table_made, pattern_gone, actions_gone, table_gone}
 
 abbrev pub rules_done : State → RuleEffect → State

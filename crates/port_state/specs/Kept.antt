@@ -1,5 +1,5 @@
 -- What the code keeps for operations that are held: slots of tables that are reserved, and shared actions that aren't in effect yet.
-use Rattle.std.specs.Prelude.{◌≡◌, ℕ, ◌+◌, ◌<◌, Bool, true, false, not, ◌||◌, nat_eq, nat_lt, is_some, length, List, All, Option, None, Some, IfSome, IsSome, count_by}
+use Rattle.std.specs.Prelude.{◌≡◌, ℕ, ◌+◌, ◌<◌, Bool, true, false, not, ◌||◌, nat_eq, nat_lt, is_some, length, List, All, Option, None, Some, count_by}
 use Rattle.std.specs.Map.{lookup}
 use Rattle.flow_rules.specs.RuleView.{RuleView}
 use Rattle.flow_rules.specs.Shared.{shared_at}

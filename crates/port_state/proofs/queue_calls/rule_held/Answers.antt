@@ -1,10 +1,7 @@
-use Rattle.std.proofs.Common.{◌≡◌, ◌∙◌, sym, ap, subst, None, Some, Option}
-use Rattle.std.specs.Prelude.{IfOk, Result, Ok, Err}
+use Rattle.std.proofs.Common.{◌∙◌, sym, ap, Option}
 use Rattle.std.specs.Result.{result_err}
 use Rattle.flow_rules.specs.declared.fault.Fault.{Fault}
 use Rattle.port_state.specs.KeptState.{state_in}
-use Rattle.port_state.specs.State.{first_of, full_fault, table_rule_fault}
-use Rattle.flow_calls.specs.declared.reply.Reply.{Reply}
 use Rattle.flow_calls.specs.declared.reply.Reply.TheVariants as replies
 use Rattle.flow_calls.specs.declared.reply.OpKind.TheVariants as kinds
 use Rattle.port_state.specs.Reply.{unless}

@@ -1,22 +1,19 @@
-use Rattle.std.proofs.Common.{◌≡◌, ℕ, refl, sym, subst, ap, ◌∙◌, map, count_by, None, Some, IsSome}
+use Rattle.std.proofs.Common.{◌≡◌, ℕ, refl, sym, subst, ap, ◌∙◌, map, Some}
 use Rattle.flow_actions.specs.declared.action.Action.{Action}
-use Rattle.flow_rules.specs.Shared.{Shared, IsSharedOn}
-use Rattle.indirect_counters.specs.declared.shared_action.SharedAction.{SharedAction}
+use Rattle.flow_rules.specs.Shared.{Shared}
 use Rattle.indirect_counters.specs.Entries.{Entries, created, entry_at, in_effect_at, values_in_effect}
-use Rattle.indirect_counters.specs.Sound.{AreOn, CanAdd}
-use Rattle.port_state.specs.declared.held.Held.{Held}
+use Rattle.indirect_counters.specs.Sound.{AreOn}
 use Rattle.port_state.specs.declared.held.Held.TheVariants as held
-use Rattle.port_state.specs.Kept.{AreKept, AreKeptFor}
+use Rattle.port_state.specs.Kept.{AreKeptFor}
 use Rattle.port_state.specs.KeptState.{KeptState, state_in, placed, plans_of}
-use Rattle.port_state.specs.State.{all_held, shared_gone, shared_set}
+use Rattle.port_state.specs.State.{shared_set}
 use Rattle.port_state.specs.StateInside.{state_kept}
 use Rattle.port_state.proofs.Parts.{with_parts}
-use Rattle.indirect_counters.specs.Effects.{activated}
 use Rattle.indirect_counters.proofs.Effects.{values-activated}
 use Rattle.indirect_counters.proofs.Lawful.{AreOn-activated}
 use Rattle.port_state.proofs.Carried.{carried-shared, CarriesShared, activated_shared}
 use Rattle.port_state.proofs.SharedHeld.{activated-kept}
-use Rattle.std.proofs.Common.{nat_eq, is_some, true, false, ◌∷◌}
+use Rattle.std.proofs.Common.{nat_eq, is_some, true, ◌∷◌}
 use Rattle.std.specs.List.{IsDistinct}
 use Rattle.std.specs.Map.{keys_of}
 use Rattle.port_state.proofs.state.State.activate.Goals as goal

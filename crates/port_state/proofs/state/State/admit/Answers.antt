@@ -1,16 +1,13 @@
-use Rattle.std.proofs.Common.{◌≡◌, ℕ, ◌∷◌, is_some, refl, sym, subst, ap, ◌∙◌, None, IsSome}
+use Rattle.std.proofs.Common.{◌≡◌, ◌∷◌, sym, subst, ap, ◌∙◌}
 use Rattle.flow_rules.specs.RuleView.{RuleView}
 use Rattle.flow_rules.specs.Faults.{first}
-use Rattle.indirect_counters.specs.Sound.{CanAdd}
-use Rattle.template_tables.specs.Slots.{slot_refusals}
-use Rattle.template_tables.specs.TemplatesView.{table_of}
 use Rattle.port_state.specs.declared.held.Held.{Held}
 use Rattle.port_state.specs.declared.held.Held.TheVariants as held
 use Rattle.port_state.specs.Effect.{CanHold}
-use Rattle.port_state.specs.Kept.{AreKept, AreKeptFor}
+use Rattle.port_state.specs.Kept.{AreKeptFor}
 use Rattle.port_state.specs.KeptState.{KeptState, state_in}
 use Rattle.port_state.specs.State.{all_held}
-use Rattle.port_state.specs.StateInside.{state_kept, HaveSettled}
+use Rattle.port_state.specs.StateInside.{HaveSettled}
 use Rattle.port_state.proofs.Objects.{CanAdd-entries}
 use Rattle.port_state.proofs.TemplatesJudged.{slots-left, table-there}
 use Rattle.port_state.proofs.state.State.admit.Goals as goal

@@ -1,6 +1,5 @@
 use Rattle.std.proofs.Common.{◌≡◌, [], ◌∷◌, None, refl, sym, ap, ◌∙◌, subst}
 use Rattle.std.proofs.lemmas.List.{map-append}
-use Rattle.flow_rules.specs.declared.change.Change.{Change}
 use Rattle.flow_rules.specs.declared.change.Change.TheVariants as changes
 use Rattle.flow_rules.specs.Changes.{changed}
 use Rattle.flow_rules.specs.RuleView.{RuleView}

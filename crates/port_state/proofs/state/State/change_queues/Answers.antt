@@ -1,4 +1,4 @@
-use Rattle.std.proofs.Common.{◌≡◌, sym, subst}
+use Rattle.std.proofs.Common.{sym, subst}
 use Rattle.port_state.specs.Apart.{AreApart}
 use Rattle.port_state.specs.Effect.{AreQueuesDue}
 use Rattle.port_state.specs.KeptState.{state_in}

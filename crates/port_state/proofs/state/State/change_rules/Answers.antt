@@ -1,10 +1,7 @@
-use Rattle.std.proofs.Common.{◌≡◌, ℕ, ◌<◌, nat_eq, count_by, map, refl, sym, subst, ap, ◌∙◌, true, List, None, IsSome}
+use Rattle.std.proofs.Common.{◌≡◌, ℕ, nat_eq, map, refl, sym, subst, ap, ◌∙◌, true, List, None}
 use Rattle.std.specs.List.{IsDistinct}
 use Rattle.std.specs.Map.{keys_of}
 use Rattle.flow_rules.specs.Naming.{rule_at}
-use Rattle.indirect_counters.specs.Entries.{in_effect_at}
-use Rattle.indirect_counters.specs.Sound.{CanAdd}
-use Rattle.indirect_counters.specs.Refusals as shared_calls
 use Rattle.indirect_counters.proofs.Creating.{update-clear}
 use Rattle.port_state.specs.declared.held.Held.{Held}
 use Rattle.port_state.specs.Apart.{is_rule}

@@ -1,4 +1,4 @@
-use Rattle.std.proofs.Common.{sym, ap, ◌∙◌, subst}
+use Rattle.std.proofs.Common.{ap, ◌∙◌, subst}
 use Rattle.object_ids.specs.Ids.{id_for}
 use Rattle.indirect_counters.specs.Refusals as shared_calls
 use Rattle.indirect_counters.specs.Sound.{CanAdd}

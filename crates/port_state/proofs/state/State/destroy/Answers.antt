@@ -1,11 +1,10 @@
-use Rattle.std.proofs.Common.{◌≡◌, ℕ, nat_eq, sym, subst, ap, ◌∙◌, map, List, Some}
+use Rattle.std.proofs.Common.{◌≡◌, nat_eq, sym, subst, ap, ◌∙◌, map, List}
 use Rattle.std.specs.List.{All, IsDistinct, count_by}
 use Rattle.std.specs.Map.{keys_of}
 use Rattle.rules_in_effect.specs.declared.in_effect.InEffect.{InEffect}
 use Rattle.rules_in_effect.specs.Entries as rules
 use Rattle.template_tables.specs.TemplatesView.{TemplatesView}
 use Rattle.indirect_counters.specs.Entries.{values_in_effect}
-use Rattle.port_state.specs.declared.held.Held.{Held}
 use Rattle.port_state.specs.Apart.{is_held_rule}
 use Rattle.port_state.specs.Kept.{AreKeptFor}
 use Rattle.port_state.specs.KeptState.{KeptState, state_in, placed, plans_of}
@@ -14,7 +13,7 @@ use Rattle.port_state.specs.StateInside.{HaveSettled, IsSettled}
 use Rattle.port_state.proofs.RulesKept.{without-placed}
 use Rattle.port_state.proofs.Carried.{carried-rules, CarriesRule, removed_rule}
 use Rattle.port_state.proofs.Parts.{with_parts}
-use Rattle.port_state.proofs.Settling.{left-without, IsLeft, id-gone}
+use Rattle.port_state.proofs.Settling.{left-without, id-gone}
 use Rattle.port_state.proofs.state.State.destroy.Goals as goal
 
 pub invariant_of-self : goal.invariant_of-self

@@ -1,17 +1,16 @@
-use Rattle.std.proofs.Common.{◌≡◌, ℕ, nat_eq, refl, sym, subst, ap, ◌∙◌, map, None}
+use Rattle.std.proofs.Common.{◌≡◌, ℕ, nat_eq, sym, subst, ap, ◌∙◌, map, None}
 use Rattle.std.specs.List.{All, IsDistinct}
 use Rattle.std.specs.Map.{keys_of}
 use Rattle.flow_rules.specs.Faults.{first}
 use Rattle.template_tables.specs.Refusals.{table_end_refusals}
 use Rattle.template_tables.specs.TemplatesView.{TemplatesView}
-use Rattle.port_state.specs.declared.held.Held.{Held}
 use Rattle.port_state.specs.Kept.{AreKept, AreKeptFor}
 use Rattle.port_state.specs.KeptState.{KeptState, placed, state_in}
 use Rattle.port_state.specs.State.{all_held, templates_in}
 use Rattle.port_state.specs.StateInside.{state_kept, HaveSettled, IsSettled}
 use Rattle.port_state.specs.Tables.{table_gone}
 use Rattle.port_state.proofs.TemplatesJudged.{table-end}
-use Rattle.port_state.proofs.TemplatesKept.{at-ok, gone, gone-kept, gone-settled, gone-slots, gone-tables, may-end, MayEnd, plans-gone}
+use Rattle.port_state.proofs.TemplatesKept.{at-ok, gone, gone-kept, gone-settled, gone-slots, gone-tables, may-end, plans-gone}
 use Rattle.port_state.proofs.state.State.end_table.Goals as goal
 
 -- the table may go, by what is kept

@@ -1,4 +1,4 @@
-use Rattle.std.proofs.Common.{◌≡◌, ℕ, ◌<◌, ◌∷◌, [], ◌++◌, Bool, List, Option, None, Some, drop, map, length, slice_set, refl, sym, subst, ap, ◌∙◌}
+use Rattle.std.proofs.Common.{◌≡◌, ℕ, ◌<◌, ◌∷◌, [], ◌++◌, Bool, List, Option, Some, drop, map, length, slice_set, sym, subst, ap, ◌∙◌}
 use Rattle.std.specs.Prelude.{OnSome}
 use Rattle.std.proofs.lemmas.List.{get_or-set_same, set-set}
 use Rattle.op_queues.specs.OpQueue.{Queue}

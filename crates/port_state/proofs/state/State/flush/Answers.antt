@@ -1,4 +1,4 @@
-use Rattle.std.proofs.Common.{◌≡◌, ℕ, nat_eq, refl, sym, subst, ap, ◌∙◌, map, List, []}
+use Rattle.std.proofs.Common.{◌≡◌, nat_eq, refl, sym, subst, ap, ◌∙◌, map, List, []}
 use Rattle.std.specs.List.{All, IsDistinct}
 use Rattle.std.specs.Map.{keys_of}
 use Rattle.std.proofs.lemmas.List.Elements.{All-nil}
@@ -6,7 +6,6 @@ use Rattle.rules_in_effect.specs.declared.in_effect.InEffect.{InEffect}
 use Rattle.rules_in_effect.specs.Entries as rules
 use Rattle.template_tables.specs.TemplatesView.{TemplatesView}
 use Rattle.indirect_counters.specs.Entries.{values_in_effect}
-use Rattle.port_state.specs.declared.held.Held.{Held}
 use Rattle.port_state.specs.Apart.{AreOthers}
 use Rattle.port_state.specs.Freed.{freed_all}
 use Rattle.port_state.specs.Kept.{AreKeptFor}
@@ -15,7 +14,7 @@ use Rattle.port_state.specs.State.{Placed, flushed}
 use Rattle.port_state.specs.StateInside.{HaveSettled, IsSettled}
 use Rattle.port_state.proofs.Carried.{carried-rules, CarriesRule}
 use Rattle.port_state.proofs.Parts.{with_parts}
-use Rattle.port_state.proofs.Settling.{left-all, AreLeft}
+use Rattle.port_state.proofs.Settling.{left-all}
 use Rattle.port_state.proofs.state.State.flush.Goals as goal
 
 pub invariant_of-self : goal.invariant_of-self

@@ -1,5 +1,4 @@
-use Rattle.std.proofs.Common.{◌≡◌, ◌<◌, ◌∙◌, ℕ, nat_eq, length, sym, ap, subst, None, Some, Option, arith}
-use Rattle.flow_rules.specs.declared.fault.Fault.{Fault}
+use Rattle.std.proofs.Common.{◌∙◌, nat_eq, sym, ap, Some, arith}
 use Rattle.flow_rules.specs.declared.fault.Cause.TheVariants as causes
 use Rattle.flow_rules.specs.Faults.{fault_if, first}
 use Rattle.op_queues.specs.OpQueue as op_queues

@@ -1,10 +1,10 @@
-use Rattle.std.proofs.Common.{◌≡◌, ℕ, ◌<◌, ◌++◌, ◌∷◌, [], length, refl, sym, subst, ap, ◌∙◌, get_or, None}
+use Rattle.std.proofs.Common.{◌≡◌, ℕ, ◌<◌, ◌++◌, ◌∷◌, [], length, sym, subst, ap, ◌∙◌}
 use Rattle.op_queues.specs.OpQueue.{Queue}
 use Rattle.port_state.specs.declared.held.Held.{Held}
-use Rattle.port_state.specs.Kept.{AreKept, AreKeptFor}
+use Rattle.port_state.specs.Kept.{AreKeptFor}
 use Rattle.port_state.specs.KeptState.{KeptState, state_in}
 use Rattle.port_state.specs.Queue.{FlowQueue}
-use Rattle.port_state.specs.State.{State, admitted, all_held, full_fault, queue_at, waiting, with_queue}
+use Rattle.port_state.specs.State.{State, admitted, all_held, queue_at, with_queue}
 use Rattle.port_state.specs.StateInside.{state_kept, queue_of}
 use Rattle.port_state.proofs.QueueParts.{at-admitted, here-is, here-sound, kept-waiting, many-kept, ok-unless, size-admitted, state-set, takes-more}
 use Rattle.port_state.proofs.Waiting.{queue_with, queues-admitted, there-full}

@@ -1,4 +1,4 @@
-use Rattle.std.proofs.Common.{◌≡◌, ◌∷◌, nat_eq, true, refl, sym, subst, ap, ◌∙◌, map}
+use Rattle.std.proofs.Common.{◌∷◌, nat_eq, true, sym, subst, ap, ◌∙◌, map}
 use Rattle.std.specs.List.{IsDistinct}
 use Rattle.std.specs.Map.{keys_of}
 use Rattle.flow_rules.specs.Shared.{Shared, IsSharedOn}

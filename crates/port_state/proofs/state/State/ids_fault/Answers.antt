@@ -1,5 +1,5 @@
 use Rattle.std.proofs.Common.{◌^◌, ◌-◌, cond, sym, ap, ◌∙◌, Some, None, arith}
-use Rattle.std.proofs.lemmas.Bool.{le-leb, lt-leb}
+use Rattle.std.proofs.lemmas.Bool.{le-leb}
 use Rattle.flow_rules.specs.declared.fault.Cause.TheVariants as causes
 use Rattle.port_state.specs.KeptState.{KeptState, state_in}
 use Rattle.port_state.specs.State.{ids_fault, plain}

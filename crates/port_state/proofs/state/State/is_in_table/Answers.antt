@@ -1,4 +1,4 @@
-use Rattle.std.proofs.Common.{◌≡◌, ℕ, Bool, refl, sym, ap, ◌∙◌, Some, None, Option, is_some, not}
+use Rattle.std.proofs.Common.{◌≡◌, ℕ, refl, sym, ap, ◌∙◌, Some, None, Option, is_some, not}
 use Rattle.std.specs.List.{list_any}
 use Rattle.std.specs.Option.{is_none, option_copied}
 use Rattle.rules_in_effect.specs.declared.in_effect.InEffect.{InEffect}

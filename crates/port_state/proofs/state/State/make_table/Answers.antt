@@ -4,7 +4,7 @@ use Rattle.std.specs.List.{All, IsDistinct}
 use Rattle.std.specs.Map.{keys_of, lookup}
 use Rattle.flow_rules.specs.declared.spec.Attr.{Attr}
 use Rattle.object_ids.specs.Ids.{id_for}
-use Rattle.template_tables.specs.TableView.{TableView, empty_table}
+use Rattle.template_tables.specs.TableView.{empty_table}
 use Rattle.template_tables.specs.TemplatesView.{TemplatesView}
 use Rattle.port_state.specs.declared.state.State.TheInside.{Inside}
 use Rattle.indirect_counters.specs.Entries.{values_in_effect}

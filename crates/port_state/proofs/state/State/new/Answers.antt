@@ -1,8 +1,5 @@
-use Rattle.std.proofs.Common.{[], ap, map}
-use Rattle.std.specs.Prelude.{List}
-use Rattle.op_queues.specs.OpQueue.{Queue}
-use Rattle.port_state.specs.declared.held.Held.{Held}
-use Rattle.port_state.specs.StateInside.{queue_of, state_kept}
+use Rattle.std.proofs.Common.{ap, map}
+use Rattle.port_state.specs.StateInside.{queue_of}
 use Rattle.port_state.proofs.Opening.{kept-none}
 use Rattle.port_state.proofs.state.State.new.Goals as goal
 

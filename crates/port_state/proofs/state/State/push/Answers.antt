@@ -1,7 +1,7 @@
-use Rattle.std.proofs.Common.{◌≡◌, ℕ, ◌+◌, ◌-◌, ◌≤◌, length, refl, subst, arith}
+use Rattle.std.proofs.Common.{◌≡◌, ℕ, ◌+◌, ◌-◌, refl, subst, arith}
 use Rattle.port_state.specs.KeptState.{state_in}
 use Rattle.port_state.specs.State.{queue_at}
-use Rattle.port_state.proofs.Pushing.{Goes, IsPushing, changes-done, goes-step, pushes-step, state-done}
+use Rattle.port_state.proofs.Pushing.{IsPushing, goes-step, pushes-step}
 use Rattle.port_state.proofs.state.State.push.Goals as goal
 
 pub loop-preserved : goal.loop-preserved

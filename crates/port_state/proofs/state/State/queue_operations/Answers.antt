@@ -1,7 +1,5 @@
-use Rattle.std.proofs.Common.{◌≡◌, ◌<◌, ◌+◌, ℕ, Bool, true, false, length, None, subst, sym, ap, ◌∙◌}
-use Rattle.port_state.specs.declared.effect.QueueEffect.{QueueEffect}
-use Rattle.port_state.specs.declared.effect.QueueEffect.TheVariants as queues
-use Rattle.port_state.specs.Effect.{AreQueuesDue, enqueued_operations, queue_operations}
+use Rattle.std.proofs.Common.{subst}
+use Rattle.port_state.specs.Effect.{AreQueuesDue}
 use Rattle.port_state.specs.KeptState.{state_in}
 use Rattle.port_state.proofs.QueuesRead.{queue-there}
 use Rattle.port_state.proofs.Places.{no-first}

@@ -1,25 +1,21 @@
-use Rattle.std.proofs.Common.{◌≡◌, ℕ, refl, sym, subst, ap, ◌∙◌, map, count_by, None, Some, IsSome}
+use Rattle.std.proofs.Common.{◌≡◌, ℕ, sym, subst, ap, ◌∙◌, map, None}
 use Rattle.flow_actions.specs.declared.action.Action.{Action}
 use Rattle.flow_rules.specs.Shared.{Shared, IsSharedOn}
-use Rattle.indirect_counters.specs.declared.shared_action.SharedAction.{SharedAction}
-use Rattle.indirect_counters.specs.Entries.{Entries, created, entry_at, in_effect_at, values_in_effect}
-use Rattle.indirect_counters.specs.Sound.{AreOn, CanAdd}
-use Rattle.port_state.specs.declared.held.Held.{Held}
-use Rattle.port_state.specs.declared.held.Held.TheVariants as held
-use Rattle.port_state.specs.Kept.{AreKept, AreKeptFor}
+use Rattle.indirect_counters.specs.Entries.{Entries, in_effect_at, values_in_effect}
+use Rattle.indirect_counters.specs.Sound.{AreOn}
+use Rattle.port_state.specs.Kept.{AreKeptFor}
 use Rattle.port_state.specs.KeptState.{KeptState, state_in, placed, plans_of}
-use Rattle.port_state.specs.State.{all_held, shared_gone, shared_set}
+use Rattle.port_state.specs.State.{shared_set}
 use Rattle.port_state.specs.StateInside.{state_kept}
 use Rattle.port_state.proofs.Parts.{with_parts}
 use Rattle.indirect_counters.specs.Refusals.{update_fault}
-use Rattle.indirect_counters.specs.Effects.{updated}
 use Rattle.indirect_counters.proofs.Creating.{update-clear, IsSharedOn-updated}
 use Rattle.indirect_counters.proofs.Effects.{seen-updated}
 use Rattle.indirect_counters.proofs.Lawful.{AreOn-updated}
 use Rattle.port_state.proofs.Carried.{carried-shared, CarriesShared, updated_shared}
 use Rattle.port_state.proofs.SharedHeld.{updated-kept}
 use Rattle.port_state.proofs.TemplatesKept.{at-ok}
-use Rattle.std.proofs.Common.{nat_eq, true, false}
+use Rattle.std.proofs.Common.{nat_eq}
 use Rattle.std.specs.List.{IsDistinct}
 use Rattle.std.specs.Map.{keys_of}
 use Rattle.port_state.proofs.state.State.replace.Goals as goal

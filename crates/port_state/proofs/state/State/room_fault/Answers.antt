@@ -1,6 +1,5 @@
-use Rattle.std.proofs.Common.{◌≡◌, ℕ, cond, Bool, true, false, count_by, sym, ap, ◌∙◌, Some, None, nat_le, Option, arith}
+use Rattle.std.proofs.Common.{cond, count_by, sym, ap, ◌∙◌, Some, arith}
 use Rattle.std.proofs.lemmas.Bool.{le-leb, lt-leb}
-use Rattle.flow_rules.specs.declared.fault.Fault.{Fault}
 use Rattle.flow_rules.specs.declared.fault.Cause.TheVariants as causes
 use Rattle.port_state.specs.KeptState.{KeptState, state_in}
 use Rattle.port_state.specs.State.{ids_fault, is_plain, plain, room_fault}

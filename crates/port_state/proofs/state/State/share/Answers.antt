@@ -1,17 +1,12 @@
-use Rattle.std.proofs.Common.{◌≡◌, ℕ, refl, sym, subst, ap, ◌∙◌, map, count_by, None, Some, IsSome}
-use Rattle.flow_actions.specs.declared.action.Action.{Action}
+use Rattle.std.proofs.Common.{sym, subst, ap, ◌∙◌, map}
 use Rattle.flow_rules.specs.Shared.{Shared, IsSharedOn}
-use Rattle.indirect_counters.specs.declared.shared_action.SharedAction.{SharedAction}
-use Rattle.indirect_counters.specs.Entries.{Entries, created, entry_at, in_effect_at, values_in_effect}
+use Rattle.indirect_counters.specs.Entries.{Entries, in_effect_at, values_in_effect}
 use Rattle.indirect_counters.specs.Sound.{AreOn, CanAdd}
-use Rattle.port_state.specs.declared.held.Held.{Held}
-use Rattle.port_state.specs.declared.held.Held.TheVariants as held
 use Rattle.port_state.specs.Kept.{AreKept, AreKeptFor}
 use Rattle.port_state.specs.KeptState.{KeptState, state_in, placed, plans_of}
-use Rattle.port_state.specs.State.{all_held, shared_gone, shared_set}
+use Rattle.port_state.specs.State.{all_held, shared_set}
 use Rattle.port_state.specs.StateInside.{state_kept}
 use Rattle.port_state.proofs.Parts.{with_parts}
-use Rattle.indirect_counters.specs.Effects.{added}
 use Rattle.indirect_counters.proofs.Effects.{values-added}
 use Rattle.indirect_counters.proofs.Lawful.{AreOn-added}
 use Rattle.port_state.proofs.Carried.{carried-shared, CarriesShared, added_shared}

@@ -1,10 +1,8 @@
-use Rattle.std.proofs.Common.{◌≡◌, ℕ, ◌<◌, ◌≤◌, ◌∷◌, [], ◌++◌, Bool, true, false, nat_eq, drop, length, slice_set, refl, sym, subst, ap, ◌∙◌, List}
+use Rattle.std.proofs.Common.{◌≡◌, ℕ, ◌∷◌, Bool, true, false, nat_eq, drop, slice_set, sym, subst, ap, ◌∙◌, List}
 use Rattle.std.specs.List.{All, IsDistinct}
 use Rattle.std.specs.Map.{keys_of}
-use Rattle.flow_rules.specs.declared.counter.Counter.{Counter}
-use Rattle.flow_rules.specs.declared.counter.Count.{Count}
 use Rattle.port_state.specs.declared.held.Held.{Held}
-use Rattle.port_state.specs.Apart.{AreApart, IsFit}
+use Rattle.port_state.specs.Apart.{IsFit}
 use Rattle.port_state.specs.Counters.{is_there, while_there}
 use Rattle.port_state.specs.Kept.{AreKept, AreKeptFor, IsHeldIn}
 use Rattle.port_state.specs.KeptState.{KeptState, count_in, state_in}

@@ -1,10 +1,9 @@
 use Rattle.std.proofs.Common.{◌≡◌, ◌∙◌, Bool, true, false, not, refl, sym, ap, subst, Option}
 use Rattle.std.specs.Option.{is_none}
 use Rattle.flow_rules.specs.declared.fault.Fault.{Fault}
-use Rattle.port_state.specs.declared.held.Held.{Held}
 use Rattle.port_state.specs.Apart.{IsFit}
 use Rattle.port_state.specs.KeptState.{state_in}
-use Rattle.port_state.specs.State.{objects, queued_update_fault, succeeds}
+use Rattle.port_state.specs.State.{objects, succeeds}
 use Rattle.indirect_counters.specs.Refusals as shared_calls
 use Rattle.port_state.proofs.Succeeds.{update-succeeds}
 use Rattle.port_state.proofs.state.State.succeeds.Goals as goal

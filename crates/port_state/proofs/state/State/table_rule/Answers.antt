@@ -1,11 +1,9 @@
-use Rattle.std.proofs.Common.{◌≡◌, ◌∙◌, sym, ap, subst, is_some, None, Some, Option, IsSome, IfSome, refl}
+use Rattle.std.proofs.Common.{◌≡◌, ◌∙◌, sym, ap, subst, is_some, Option, IfSome}
 use Rattle.std.specs.Prelude.{IfOk}
 use Rattle.std.specs.Result.{result_err}
-use Rattle.flow_rules.specs.RuleView.{RuleView}
 use Rattle.flow_rules.specs.declared.fault.Fault.{Fault}
 use Rattle.flow_rules.specs.declared.spec.RuleSpec.{RuleSpec}
-use Rattle.flow_rules.specs.Faults.{first, rule_of}
-use Rattle.template_tables.specs.Bound.{bind_refusals}
+use Rattle.flow_rules.specs.Faults.{rule_of}
 use Rattle.template_tables.specs.TemplatesView.{table_of}
 use Rattle.port_state.specs.KeptState.{state_in}
 use Rattle.port_state.specs.State.{bound, bound_fault, first_of, templates_in}

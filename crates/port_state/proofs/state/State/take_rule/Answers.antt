@@ -1,4 +1,4 @@
-use Rattle.std.proofs.Common.{◌≡◌, ℕ, nat_eq, ◌++◌, ◌∷◌, [], refl, ap, ◌∙◌, map, length, sym, subst, List, None, Some}
+use Rattle.std.proofs.Common.{◌≡◌, ℕ, nat_eq, ◌++◌, ◌∷◌, [], refl, ap, ◌∙◌, map, sym, subst, List, None, Some}
 use Rattle.std.specs.List.{All, IsDistinct}
 use Rattle.std.specs.Map.{keys_of}
 use Rattle.std.proofs.lemmas.List.{map-append}
@@ -11,13 +11,13 @@ use Rattle.template_tables.specs.Slots.{settled}
 use Rattle.indirect_counters.specs.Entries.{values_in_effect}
 use Rattle.port_state.specs.Kept.{IsReserved, AreKeptFor}
 use Rattle.port_state.specs.KeptState.{KeptState, state_in, placed, plans_of}
-use Rattle.port_state.specs.State.{Placed, State, rule_in, took_effect}
-use Rattle.port_state.specs.StateInside.{HaveSettled, IsSettled, queue_of}
+use Rattle.port_state.specs.State.{Placed, rule_in, took_effect}
+use Rattle.port_state.specs.StateInside.{HaveSettled, IsSettled}
 use Rattle.port_state.proofs.Carried.{carried-rules, CarriesRule, pushed_rule}
 use Rattle.port_state.specs.declared.held.Held.TheVariants as held
 use Rattle.port_state.proofs.Parts.{with_parts}
 use Rattle.port_state.proofs.Plans.{plans-with, tables-with}
-use Rattle.port_state.proofs.Settling.{entry-free, reserved-at, ReservedAt, taken-kept, taken-settled, taken-slots}
+use Rattle.port_state.proofs.Settling.{entry-free, reserved-at, taken-kept, taken-settled, taken-slots}
 use Rattle.port_state.proofs.state.State.take_rule.Goals as goal
 
 pub push-requires-clause-fresh : goal.push-requires-clause-fresh

@@ -9,7 +9,7 @@ use Rattle.template_tables.specs.TemplatesView.{TemplatesView, table_of, with_ta
 use Rattle.port_state.specs.declared.held.Held.TheVariants as held
 use Rattle.port_state.specs.Kept.{AreKept, AreKeptFor}
 use Rattle.port_state.specs.KeptState.{KeptState, placed, plans_of, state_in}
-use Rattle.port_state.specs.State.{State, all_held, id_taken}
+use Rattle.port_state.specs.State.{all_held, id_taken}
 use Rattle.port_state.specs.StateInside.{state_kept, HaveSettled, IsSettled}
 use Rattle.port_state.proofs.Holding.{reserved-kept, reserved-settled, reserved-slots}
 use Rattle.port_state.proofs.Parts.{with_parts}

@@ -1,22 +1,17 @@
-use Rattle.std.proofs.Common.{◌≡◌, ℕ, refl, sym, subst, ap, ◌∙◌, map, count_by, None, Some, IsSome}
-use Rattle.flow_actions.specs.declared.action.Action.{Action}
-use Rattle.flow_rules.specs.Shared.{Shared, IsSharedOn}
-use Rattle.indirect_counters.specs.declared.shared_action.SharedAction.{SharedAction}
-use Rattle.indirect_counters.specs.Entries.{Entries, created, entry_at, in_effect_at, values_in_effect}
-use Rattle.indirect_counters.specs.Sound.{AreOn, CanAdd}
-use Rattle.port_state.specs.declared.held.Held.{Held}
-use Rattle.port_state.specs.declared.held.Held.TheVariants as held
-use Rattle.port_state.specs.Kept.{AreKept, AreKeptFor}
+use Rattle.std.proofs.Common.{◌≡◌, ℕ, sym, subst, ap, ◌∙◌, map, IsSome}
+use Rattle.flow_rules.specs.Shared.{Shared}
+use Rattle.indirect_counters.specs.Entries.{Entries, in_effect_at, values_in_effect}
+use Rattle.indirect_counters.specs.Sound.{AreOn}
+use Rattle.port_state.specs.Kept.{AreKeptFor}
 use Rattle.port_state.specs.KeptState.{KeptState, state_in, placed, plans_of}
-use Rattle.port_state.specs.State.{all_held, shared_gone, shared_set}
+use Rattle.port_state.specs.State.{shared_gone}
 use Rattle.port_state.specs.StateInside.{state_kept}
 use Rattle.port_state.proofs.Parts.{with_parts}
-use Rattle.indirect_counters.specs.Effects.{without}
 use Rattle.indirect_counters.proofs.Effects.{values-without}
 use Rattle.indirect_counters.proofs.Lawful.{AreOn-without}
 use Rattle.port_state.proofs.Carried.{carried-shared, CarriesShared, removed_shared}
 use Rattle.port_state.proofs.SharedHeld.{gone-kept}
-use Rattle.std.proofs.Common.{nat_eq, true, false}
+use Rattle.std.proofs.Common.{nat_eq}
 use Rattle.std.specs.List.{IsDistinct}
 use Rattle.std.specs.Map.{keys_of}
 use Rattle.port_state.proofs.state.State.unshare.Goals as goal
