@@ -5,23 +5,16 @@ ghost use Rattle.adapter.specs.KeptLine.{IsLineOf};
 ghost use Rattle.adapter.specs.Seen.{Enters, Grows, Stays, entry_of};
 ghost use Rattle.adapter.specs.Spare.{no_spare, TakesFrames, TakesLine, Widens};
 
-use flow_calls::Call;
-use flow_calls::Caller;
-use port_state::ChangeList;
-use flow_calls::EntryView;
 use crate::history::History;
 use crate::kept::{copy_of_reply, keep_call};
 use crate::line::LineView;
-use port_state::{Judged, judge};
 use crate::packed::Packed;
-use flow_calls::Parcel;
-use flow_calls::{Reply, Totals};
 use crate::spare::Spare;
-use port_state::Standing;
-use port_state::State;
 use flow_actions::Verdict;
+use flow_calls::{Call, Caller, EntryView, Parcel, Reply, Totals};
 use flow_rules::{Change, Limits, classify};
 use packet_headers::Key;
+use port_state::{ChangeList, Judged, Standing, State, judge};
 use std::alloc::{AllocError, Global};
 use std::marker::Model;
 

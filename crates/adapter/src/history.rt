@@ -7,13 +7,11 @@ ghost use Rattle.adapter.specs.KeptLine.{IsLineOf};
 ghost use Rattle.adapter.specs.Seen.{entry_of};
 ghost use Rattle.adapter.specs.Spare.{no_spare, TakesFrames, TakesLine, Widens};
 
-use flow_calls::Caller;
-use flow_calls::EntryView;
 use crate::kept::{Kept, Long, fill_stock, keep_frame, keep_in_stock, show, show_line};
 use crate::line::LineView;
-use flow_calls::Parcel;
 use crate::spare::Spare;
 use flow_actions::Verdict;
+use flow_calls::{Caller, EntryView, Parcel};
 use std::alloc::{AllocError, Global};
 use std::marker::Model;
 

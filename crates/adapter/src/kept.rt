@@ -15,12 +15,9 @@ mod shown;
 mod stock;
 mod tallies;
 
-use flow_calls::Call;
-use flow_calls::Caller;
-use flow_calls::Parcel;
-use flow_calls::Reply;
 use arrayvec::ArrayVec;
 use flow_actions::{Fate, MAX_PATH, Verdict};
+use flow_calls::{Call, Caller, Parcel, Reply};
 use packet_headers::{Ipv4, Key, Network, Stack, Tags, Transport};
 pub(crate) use shown::{show, show_line};
 use std::alloc::{AllocError, Global};

@@ -4,10 +4,9 @@ ghost use Rattle.flow_calls.specs.declared.entry.Entry.TheVariants.{Passed};
 ghost use Rattle.adapter.specs.Kept.{entry_kept};
 ghost use Rattle.adapter.specs.Tallies.{IsPassed, Tallies};
 
-use flow_calls::Caller;
 use crate::kept::{Kept, Tally, keep_frame, tally_of};
-use flow_calls::Parcel;
 use flow_actions::Verdict;
+use flow_calls::{Caller, Parcel};
 use std::alloc::{AllocError, Global};
 use std::marker::Model;
 

@@ -6,9 +6,9 @@ ghost use Rattle.flow_port.specs.Bursts.{AreFit, passed_all, verdicts_by};
 ghost use Rattle.flow_port.specs.Standing.{IsCurrent, Stands};
 
 use adapter::{Adapter, Packed};
-use flow_calls::{Caller, Parcel};
 use arrayvec::ArrayVec;
 use flow_actions::Verdict;
+use flow_calls::{Caller, Parcel};
 use replica::Replica;
 use std::alloc::{AllocError, Global};
 

@@ -8,9 +8,9 @@ ghost use Rattle.flow_port.specs.Standing.{IsCurrent, Stands};
 
 use crate::frames::{Frames, enter};
 use adapter::{Adapter, Packed};
-use flow_calls::{Call, Caller, Entry, Reply};
 use arrayvec::ArrayVec;
 use flow_actions::Verdict;
+use flow_calls::{Call, Caller, Entry, Reply};
 use flow_rules::Limits;
 use replica::Replica;
 use std::alloc::AllocError;

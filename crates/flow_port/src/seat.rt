@@ -4,8 +4,8 @@ ghost use Rattle.flow_port.specs.declared.port.FlowPort.{FlowPort};
 ghost use Rattle.flow_port.specs.Ports.{IsListOf, IsSeatAt, limit_of, no_caller, seats_in, turns, whose};
 
 use crate::held::Held;
-use flow_calls::Caller;
 use arrayvec::ArrayVec;
+use flow_calls::Caller;
 use turn_book::{Seat, SeatList};
 
 /// One caller's right to turns at a port.

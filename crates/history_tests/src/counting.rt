@@ -4,9 +4,9 @@
 //! first one and takes from each what it tells, so what it expects of a query comes from the history alone.
 use crate::frames::{call, key};
 use adapter::Adapter;
-use flow_calls::{Caller, EntryView, Op, Parcel, Reply};
 use arrayvec::ArrayVec;
 use flow_actions::{Action, Actions};
+use flow_calls::{Caller, EntryView, Op, Parcel, Reply};
 use flow_rules::{Attr, Cause, Count, Fault, Limits, RuleSpec};
 use packet_headers::ItemKind;
 use pattern_items::{Item, Pattern};

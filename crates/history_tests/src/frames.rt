@@ -5,9 +5,9 @@ ghost use Rattle.port_state.specs.State.{flows_of, state_of};
 ghost use Rattle.flow_rules.specs.Walk.{verdict_of};
 
 use adapter::{Adapter, Packed};
-use flow_calls::{At, Call, Caller, EntryView, Op, Parcel};
 use arrayvec::ArrayVec;
 use flow_actions::{ALL_RSS_TYPES, Action, Actions, Fate, Rss, Verdict};
+use flow_calls::{At, Call, Caller, EntryView, Op, Parcel};
 use flow_rules::{Attr, Limits, RuleSpec};
 use packet_headers::{
     Eth, Ipv4, Ipv6, Ipv6Address, Key, Network, Stack, Tag, Tags, Tcp, Transport, Tunnel, Udp,

@@ -359,8 +359,12 @@ AreApart-waiting q (held.RuleCreated rule table) s there can apart = record {
       → count_by (is_rule id) s.rules + count_by (is_held_rule id) (all_held (waiting q (held.RuleCreated rule table) s)) ≤ 1
   by id true is most more =
       let same : s.ids ≡ id = sym can.0 ∙ eqb-true rule.id id is in
-      omega (arith, more, subst (λ k. count_by (is_rule k) s.rules ≡ 0) same (fresh-rules s.ids s.rules apart.given),
-      subst (λ k. count_by (is_held_rule k) (all_held s) ≡ 0) same (fresh-held s.ids (all_held s) apart.below))
+      omega (
+        arith,
+        more,
+        subst (λ k. count_by (is_rule k) s.rules ≡ 0) same (fresh-rules s.ids s.rules apart.given),
+        subst (λ k. count_by (is_held_rule k) (all_held s) ≡ 0) same (fresh-held s.ids (all_held s) apart.below),
+      )
   by id false is most more = omega (arith, most, more)
 AreApart-waiting q (held.RuleDestroyed rule) s there can apart = record {
   rules = λ id. omega (arith, apart.rules id, count-waiting (is_held_rule id) q (held.RuleDestroyed rule) s there);
@@ -382,8 +386,12 @@ AreApart-waiting q (held.SharedCreated new value) s there can apart = record {
   by id true is most more =
       let same : new ≡ id = sym (eqb-true id new is) in
       let free = free-objects s new can.0.free in
-      omega (arith, more, subst (λ k. one_of (shared_at k s.shared) ≡ 0) same (ap one_of free.0),
-      subst (λ k. count_by (is_held_shared k) (all_held s) ≡ 0) same free.1)
+      omega (
+        arith,
+        more,
+        subst (λ k. one_of (shared_at k s.shared) ≡ 0) same (ap one_of free.0),
+        subst (λ k. count_by (is_held_shared k) (all_held s) ≡ 0) same free.1,
+      )
   by id false is most more = omega (arith, most, more)
 AreApart-waiting q (held.SharedUpdated new value) s there can apart = record {
   rules = λ id. omega (arith, apart.rules id, count-waiting (is_held_rule id) q (held.SharedUpdated new value) s there);
@@ -433,8 +441,12 @@ AreApart-created rule s is apart = record {
       → count_by (is_rule id) (s.rules ++ record { rule = rule; table = None } ∷ []) + count_by (is_held_rule id) (all_held s) ≤ 1
   by id true eq most more =
       let same : s.ids ≡ id = sym is ∙ eqb-true rule.id id eq in
-      omega (arith, more, subst (λ k. count_by (is_rule k) s.rules ≡ 0) same (fresh-rules s.ids s.rules apart.given),
-      subst (λ k. count_by (is_held_rule k) (all_held s) ≡ 0) same (fresh-held s.ids (all_held s) apart.below))
+      omega (
+        arith,
+        more,
+        subst (λ k. count_by (is_rule k) s.rules ≡ 0) same (fresh-rules s.ids s.rules apart.given),
+        subst (λ k. count_by (is_held_rule k) (all_held s) ≡ 0) same (fresh-held s.ids (all_held s) apart.below),
+      )
   by id false eq most more = omega (arith, most, more)
 
 -- rules go

@@ -122,8 +122,15 @@ lawful-created limits s spec (Some fault) is ranges under may few = tt
 lawful-created limits s spec None is ranges under may few =
     let parts = first_of-none (first_fault limits (kinds_in s) spec) (room_fault limits s) is in
     let change = changes.Added (rule_of s.ids spec) in
-    let room : length (map rule_in s.rules) < 131072 = omega (arith, length-map s.rules rule_in, parted s.rules, place-none limits s parts.1,
-    few-in-tables s.templates.tables s.rules (all_held s) under.tables, under.room, ranges.rules) in
+    let room : length (map rule_in s.rules) < 131072 = omega (
+      arith,
+      length-map s.rules rule_in,
+      parted s.rules,
+      place-none limits s parts.1,
+      few-in-tables s.templates.tables s.rules (all_held s) under.tables,
+      under.room,
+      ranges.rules,
+    ) in
     let come = may_take-clear limits (flows_of s) s.ids spec (omega (arith, ranges.queues)) (All-head HasFewActions change [] few) parts.0 room in
     (IsFresh-apart s under.apart, may-behind limits.rxq (flows_of s) change may come, tt)
 
@@ -166,8 +173,16 @@ lawful-step limits s (held.RuleCreated rule table) head ranges under may few =
     let alone = head.follow (All-head HasFewActions change [] few) in
     let flows = flows_of s in
     let one : 1 ≤ count_by is_creation (all_held s) = omega (arith, head.behind is_creation) in
-    let room : length (map rule_in s.rules) < 131072 = omega (arith, length-map s.rules rule_in, parted s.rules, under.plain, one,
-    few-in-tables s.templates.tables s.rules (all_held s) under.tables, under.room, ranges.rules) in
+    let room : length (map rule_in s.rules) < 131072 = omega (
+      arith,
+      length-map s.rules rule_in,
+      parted s.rules,
+      under.plain,
+      one,
+      few-in-tables s.templates.tables s.rules (all_held s) under.tables,
+      under.room,
+      ranges.rules,
+    ) in
     let none : count_by (is_rule rule.id) s.rules ≡ 0 = omega (arith, under.apart.rules rule.id, head.behind (is_held_rule rule.id), ap one_if (eq-eqb rule.id rule.id refl)) in
     let take : MayTakeEffect limits.rxq flows rule = record {
       valid = All-head IsValidRule rule [] alone.valid;

@@ -130,8 +130,8 @@ module _ (ids table : ℕ) (t : TemplatesView) (at : TableView) (is : table_of t
     found : IsReserved rule.id (table_of table (with_table table (reserved ids) t))
     found =
         subst (IsReserved rule.id)
-            (sym (table_of-with table (reserved ids) t table ∙ ap (λ b. cond b (option_map (reserved ids) (table_of table t)) (table_of table t)) (eq-eqb table table refl) ∙ ap (option_map (reserved ids)) is))
-            (subst (λ k. lookup (nat_eq k) (at.slots ++ (ids, None) ∷ []) ≡ Some None) (sym own) (lookup-last ids at.slots None (none-above ids at.slots before.given)))
+        (sym (table_of-with table (reserved ids) t table ∙ ap (λ b. cond b (option_map (reserved ids) (table_of table t)) (table_of table t)) (eq-eqb table table refl) ∙ ap (option_map (reserved ids)) is))
+        (subst (λ k. lookup (nat_eq k) (at.slots ++ (ids, None) ∷ []) ≡ Some None) (sym own) (lookup-last ids at.slots None (none-above ids at.slots before.given)))
 
     kept-at : (other : RuleView) (k : ℕ) → IsReserved other.id (table_of k t) → IsReserved other.id (table_of k (with_table table (reserved ids) t))
     kept-at other k found' = subst (IsReserved other.id) (sym (table_of-with table (reserved ids) t k)) (by (nat_eq k table) (table_of k t) found') where

@@ -21,7 +21,7 @@ pub record Goes (q : ℕ) (old k : KeptState) (before list : List Change) : Type
   pub state : pushed q (state_in k) ≡ pushed q (state_in old)
   pub changes : list ++ changes_pushed q (state_in k) ≡ before ++ changes_pushed q (state_in old)
   pub counts : (c : Counter) → carried c (flows_of (state_in k)) (changes_pushed q (state_in k)) (count_in k c)
-    ≡ carried c (flows_of (state_in old)) (changes_pushed q (state_in old)) (count_in old c)
+      ≡ carried c (flows_of (state_in old)) (changes_pushed q (state_in old)) (count_in old c)
 
 -- so many operations of a queue are left, and all that a step wants holds
 pub record IsPushing (q left room : ℕ) (rxq : ℕ) (k : KeptState) : Type 0 where
@@ -52,20 +52,20 @@ goes-on : (q : ℕ) (old k new : KeptState) (before list more : List Change) (op
 goes-on q old k new before list more op ops is state changes counts goes = record {
   state = ap (pushed q) state ∙ pushed-step q (state_in k) op ops is ∙ goes.state;
   changes =
-    ap (λ (cs : List Change). cs ++ changes_pushed q (state_in new)) changes
-    ∙ ap (λ (s : State). (list ++ changes_at (state_in k) op) ++ changes_pushed q s) state
-    ∙ append_assoc list (changes_at (state_in k) op) (changes_pushed q (stepped q (state_in k) op))
-    ∙ ap (λ (cs : List Change). list ++ cs) (sym (changes-step q (state_in k) op ops is))
-    ∙ goes.changes;
+      ap (λ (cs : List Change). cs ++ changes_pushed q (state_in new)) changes
+      ∙ ap (λ (s : State). (list ++ changes_at (state_in k) op) ++ changes_pushed q s) state
+      ∙ append_assoc list (changes_at (state_in k) op) (changes_pushed q (stepped q (state_in k) op))
+      ∙ ap (λ (cs : List Change). list ++ cs) (sym (changes-step q (state_in k) op ops is))
+      ∙ goes.changes;
   counts = λ c.
-    let rest = changes_pushed q (stepped q (state_in k) op) in
-    let n = carried c (flows_of (state_in k)) (changes_at (state_in k) op) (count_in k c) in
-    ap (λ (s : State). carried c (flows_of s) (changes_pushed q s) (count_in new c)) state
-    ∙ ap (λ (m : Count). carried c (flows_of (stepped q (state_in k) op)) rest m) (counts c)
-    ∙ ap (λ (f : Flows). carried c f rest n) (flows-stepped q (state_in k) op)
-    ∙ sym (carried-append c (flows_of (state_in k)) (changes_at (state_in k) op) rest (count_in k c))
-    ∙ sym (ap (λ (cs : List Change). carried c (flows_of (state_in k)) cs (count_in k c)) (changes-step q (state_in k) op ops is))
-    ∙ goes.counts c;
+      let rest = changes_pushed q (stepped q (state_in k) op) in
+      let n = carried c (flows_of (state_in k)) (changes_at (state_in k) op) (count_in k c) in
+      ap (λ (s : State). carried c (flows_of s) (changes_pushed q s) (count_in new c)) state
+      ∙ ap (λ (m : Count). carried c (flows_of (stepped q (state_in k) op)) rest m) (counts c)
+      ∙ ap (λ (f : Flows). carried c f rest n) (flows-stepped q (state_in k) op)
+      ∙ sym (carried-append c (flows_of (state_in k)) (changes_at (state_in k) op) rest (count_in k c))
+      ∙ sym (ap (λ (cs : List Change). carried c (flows_of (state_in k)) cs (count_in k c)) (changes-step q (state_in k) op ops is))
+      ∙ goes.counts c;
 }
 
 pub goes-step : (q : ℕ) (old k new : KeptState) (before list more : List Change) (held : List Held) → (queue_at q (state_in k)).held ≡ held → 1 ≤ length held

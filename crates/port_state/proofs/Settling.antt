@@ -54,33 +54,33 @@ others-fresh id (r ∷ rules) fresh = by (nat_eq r.rule.id id) refl fresh (other
 
 -- rules whose ids differ from one keep their settled slots where the slots of other ids are as they were
 module _ (id : ℕ) (t t' : TemplatesView)
-  (same : (k : ℕ) (rule : RuleView) → nat_eq rule.id id ≡ false → IsSettledIn rule (table_of k t) → IsSettledIn rule (table_of k t')) where
-    settled-at : (r : Placed) (o : Option ℕ) → nat_eq r.rule.id id ≡ false → IsSettledAt t r.rule o → IsSettledAt t' r.rule o
-    settled-at r None other is = tt
-    settled-at r (Some k) other is = same k r.rule other is
+    (same : (k : ℕ) (rule : RuleView) → nat_eq rule.id id ≡ false → IsSettledIn rule (table_of k t) → IsSettledIn rule (table_of k t')) where
+  settled-at : (r : Placed) (o : Option ℕ) → nat_eq r.rule.id id ≡ false → IsSettledAt t r.rule o → IsSettledAt t' r.rule o
+  settled-at r None other is = tt
+  settled-at r (Some k) other is = same k r.rule other is
 
-    pub keep-settled : (rules : List Placed) → All (λ (r : Placed). nat_eq r.rule.id id ≡ false) rules → All (IsSettled t) rules → All (IsSettled t') rules
-    keep-settled [] others all = All-nil (IsSettled t')
-    keep-settled (r ∷ rules) others all =
-        All-cons (IsSettled t') r rules
-        (settled-at r r.table (All-head (λ (x : Placed). nat_eq x.rule.id id ≡ false) r rules others) (All-head (IsSettled t) r rules all))
-        (keep-settled rules (All-tail (λ (x : Placed). nat_eq x.rule.id id ≡ false) r rules others) (All-tail (IsSettled t) r rules all))
+  pub keep-settled : (rules : List Placed) → All (λ (r : Placed). nat_eq r.rule.id id ≡ false) rules → All (IsSettled t) rules → All (IsSettled t') rules
+  keep-settled [] others all = All-nil (IsSettled t')
+  keep-settled (r ∷ rules) others all =
+      All-cons (IsSettled t') r rules
+      (settled-at r r.table (All-head (λ (x : Placed). nat_eq x.rule.id id ≡ false) r rules others) (All-head (IsSettled t) r rules all))
+      (keep-settled rules (All-tail (λ (x : Placed). nat_eq x.rule.id id ≡ false) r rules others) (All-tail (IsSettled t) r rules all))
 
 -- and so do held rules keep their reserved ones
 module _ (id : ℕ) (t t' : TemplatesView) (shared : Entries)
-  (same : (k : ℕ) (rule : RuleView) → nat_eq rule.id id ≡ false → IsReserved rule.id (table_of k t) → IsReserved rule.id (table_of k t')) where
-    held-at : (op : Held) → is_held_rule id op ≡ false → IsHeldIn t shared op → IsHeldIn t' shared op
-    held-at (held.RuleCreated rule k) other is = same k rule other is
-    held-at (held.RuleDestroyed q) other is = tt
-    held-at (held.SharedCreated q value) other is = is
-    held-at (held.SharedUpdated q value) other is = tt
-    held-at (held.SharedDestroyed q) other is = tt
+    (same : (k : ℕ) (rule : RuleView) → nat_eq rule.id id ≡ false → IsReserved rule.id (table_of k t) → IsReserved rule.id (table_of k t')) where
+  held-at : (op : Held) → is_held_rule id op ≡ false → IsHeldIn t shared op → IsHeldIn t' shared op
+  held-at (held.RuleCreated rule k) other is = same k rule other is
+  held-at (held.RuleDestroyed q) other is = tt
+  held-at (held.SharedCreated q value) other is = is
+  held-at (held.SharedUpdated q value) other is = tt
+  held-at (held.SharedDestroyed q) other is = tt
 
-    pub keep-held : (ops : List Held) → count_by (is_held_rule id) ops ≡ 0 → All (IsHeldIn t shared) ops → All (IsHeldIn t' shared) ops
-    keep-held [] none all = All-nil (IsHeldIn t' shared)
-    keep-held (op ∷ ops) none all =
-        let parts = none-first (is_held_rule id) op ops none in
-        All-cons (IsHeldIn t' shared) op ops (held-at op parts.0 (All-head (IsHeldIn t shared) op ops all)) (keep-held ops parts.1 (All-tail (IsHeldIn t shared) op ops all))
+  pub keep-held : (ops : List Held) → count_by (is_held_rule id) ops ≡ 0 → All (IsHeldIn t shared) ops → All (IsHeldIn t' shared) ops
+  keep-held [] none all = All-nil (IsHeldIn t' shared)
+  keep-held (op ∷ ops) none all =
+      let parts = none-first (is_held_rule id) op ops none in
+      All-cons (IsHeldIn t' shared) op ops (held-at op parts.0 (All-head (IsHeldIn t shared) op ops all)) (keep-held ops parts.1 (All-tail (IsHeldIn t shared) op ops all))
 
 -- what stands in the table of another id
 stands-other : (q id : ℕ) → nat_eq q id ≡ false → is_table q (Some id) ≡ false
@@ -108,7 +108,7 @@ module _ (rule : RuleView) (table : ℕ) (t : TemplatesView) (at : TableView) (i
   settle-here : IsSettledIn rule (table_of table (with_table table (settled rule) t))
   settle-here =
       subst (IsSettledIn rule) (sym (table_of-with table (settled rule) t table ∙ ap (λ b. cond b (option_map (settled rule) (table_of table t)) (table_of table t)) (eq-eqb table table refl) ∙ ap (option_map (settled rule)) is))
-          (settling rule at reserved).here
+      (settling rule at reserved).here
 
   pub taken-settled : (rules : List Placed) → rule_at rule.id (map rule_in rules) ≡ None → All (IsSettled t) rules
       → All (IsSettled (with_table table (settled rule) t)) (rules ++ record { rule = rule; table = Some table } ∷ [])
@@ -196,66 +196,66 @@ plain-slots r rules rules' t removes none have q = by (table_of q t) (have q) wh
 
 -- or it stands in one, and its slot is free
 module _ (r : Placed) (table : ℕ) (t : TemplatesView) (at : TableView) (in_table : r.table ≡ Some table) (is : table_of table t ≡ Some at)
-  (found : lookup (nat_eq r.rule.id) at.slots ≡ Some (Some r.rule)) where
-    free-settled : (k : ℕ) (other : RuleView) → nat_eq other.id r.rule.id ≡ false → IsSettledIn other (table_of k t) → IsSettledIn other (table_of k (with_table table (freed r.rule.id) t))
-    free-settled k other apart settled = subst (IsSettledIn other) (sym (table_of-with table (freed r.rule.id) t k)) (by (nat_eq k table) (table_of k t) settled) where
-      by : (b : Bool) (o : Option TableView) → IsSettledIn other o → IsSettledIn other (cond b (option_map (freed r.rule.id) o) o)
-      by true None at' = at'
-      by true (Some view) at' = freed-others r.rule.id other.id view apart ∙ at'
-      by false o at' = at'
+    (found : lookup (nat_eq r.rule.id) at.slots ≡ Some (Some r.rule)) where
+  free-settled : (k : ℕ) (other : RuleView) → nat_eq other.id r.rule.id ≡ false → IsSettledIn other (table_of k t) → IsSettledIn other (table_of k (with_table table (freed r.rule.id) t))
+  free-settled k other apart settled = subst (IsSettledIn other) (sym (table_of-with table (freed r.rule.id) t k)) (by (nat_eq k table) (table_of k t) settled) where
+    by : (b : Bool) (o : Option TableView) → IsSettledIn other o → IsSettledIn other (cond b (option_map (freed r.rule.id) o) o)
+    by true None at' = at'
+    by true (Some view) at' = freed-others r.rule.id other.id view apart ∙ at'
+    by false o at' = at'
 
-    free-reserved : (k : ℕ) (other : RuleView) → nat_eq other.id r.rule.id ≡ false → IsReserved other.id (table_of k t) → IsReserved other.id (table_of k (with_table table (freed r.rule.id) t))
-    free-reserved k other apart reserved = subst (IsReserved other.id) (sym (table_of-with table (freed r.rule.id) t k)) (by (nat_eq k table) (table_of k t) reserved) where
-      by : (b : Bool) (o : Option TableView) → IsReserved other.id o → IsReserved other.id (cond b (option_map (freed r.rule.id) o) o)
-      by true None at' = at'
-      by true (Some view) at' = freed-others r.rule.id other.id view apart ∙ at'
-      by false o at' = at'
+  free-reserved : (k : ℕ) (other : RuleView) → nat_eq other.id r.rule.id ≡ false → IsReserved other.id (table_of k t) → IsReserved other.id (table_of k (with_table table (freed r.rule.id) t))
+  free-reserved k other apart reserved = subst (IsReserved other.id) (sym (table_of-with table (freed r.rule.id) t k)) (by (nat_eq k table) (table_of k t) reserved) where
+    by : (b : Bool) (o : Option TableView) → IsReserved other.id o → IsReserved other.id (cond b (option_map (freed r.rule.id) o) o)
+    by true None at' = at'
+    by true (Some view) at' = freed-others r.rule.id other.id view apart ∙ at'
+    by false o at' = at'
 
-    pub freed-settled : (rules rules' : List Placed) → Removes r rules rules' → All (IsSettled t) rules → All (IsSettled (with_table table (freed r.rule.id) t)) rules'
-    freed-settled rules rules' removes all =
-        keep-settled r.rule.id t (with_table table (freed r.rule.id) t) free-settled rules' removes.apart (removes.left (IsSettled t) all)
+  pub freed-settled : (rules rules' : List Placed) → Removes r rules rules' → All (IsSettled t) rules → All (IsSettled (with_table table (freed r.rule.id) t)) rules'
+  freed-settled rules rules' removes all =
+      keep-settled r.rule.id t (with_table table (freed r.rule.id) t) free-settled rules' removes.apart (removes.left (IsSettled t) all)
 
-    pub freed-slots : (rules rules' : List Placed) → Removes r rules rules' → HaveSettled rules t → HaveSettled rules' (with_table table (freed r.rule.id) t)
-    freed-slots rules rules' removes have = have-with table (freed r.rule.id) t (HasSettled rules') others here where
-      others : (q : ℕ) → nat_eq q table ≡ false → HasSettled rules' q (table_of q t)
-      others q other = by (table_of q t) (have q) where
-        same : count_by (stands_in q) rules' ≡ count_by (stands_in q) rules
-        same = omega (arith, removes.counts (stands_in q), ap {B = ℕ} (λ o. cond (is_table q o) 1 0) in_table, ap {B = ℕ} (λ b. cond b 1 0) other)
+  pub freed-slots : (rules rules' : List Placed) → Removes r rules rules' → HaveSettled rules t → HaveSettled rules' (with_table table (freed r.rule.id) t)
+  freed-slots rules rules' removes have = have-with table (freed r.rule.id) t (HasSettled rules') others here where
+    others : (q : ℕ) → nat_eq q table ≡ false → HasSettled rules' q (table_of q t)
+    others q other = by (table_of q t) (have q) where
+      same : count_by (stands_in q) rules' ≡ count_by (stands_in q) rules
+      same = omega (arith, removes.counts (stands_in q), ap {B = ℕ} (λ o. cond (is_table q o) 1 0) in_table, ap {B = ℕ} (λ b. cond b 1 0) other)
 
-        by : (o : Option TableView) → HasSettled rules q o → HasSettled rules' q o
-        by None none = same ∙ none
-        by (Some view) number = number ∙ ap (λ n. n + count_by is_reserved view.slots) (sym same)
+      by : (o : Option TableView) → HasSettled rules q o → HasSettled rules' q o
+      by None none = same ∙ none
+      by (Some view) number = number ∙ ap (λ n. n + count_by is_reserved view.slots) (sym same)
 
-      here : HasSettled rules' table (option_map (freed r.rule.id) (table_of table t))
-      here = subst (λ o. HasSettled rules' table (option_map (freed r.rule.id) o)) (sym is) now where
-        number : length at.slots ≡ count_by (stands_in table) rules + count_by is_reserved at.slots
-        number = subst (HasSettled rules table) is (have table)
+    here : HasSettled rules' table (option_map (freed r.rule.id) (table_of table t))
+    here = subst (λ o. HasSettled rules' table (option_map (freed r.rule.id) o)) (sym is) now where
+      number : length at.slots ≡ count_by (stands_in table) rules + count_by is_reserved at.slots
+      number = subst (HasSettled rules table) is (have table)
 
-        now : HasSettled rules' table (Some (freed r.rule.id at))
-        now =
-            let f = freeing r.rule.id r.rule at found in
-            let one : cond (stands_in table r) 1 0 ≡ 1 = ap {B = ℕ} (λ o. cond (is_table table o) 1 0) in_table ∙ ap {B = ℕ} (λ b. cond b 1 0) (eq-eqb table table refl) in
-            omega (arith, number, f.length_is, f.reserved_is, removes.counts (stands_in table), one)
+      now : HasSettled rules' table (Some (freed r.rule.id at))
+      now =
+          let f = freeing r.rule.id r.rule at found in
+          let one : cond (stands_in table r) 1 0 ≡ 1 = ap {B = ℕ} (λ o. cond (is_table table o) 1 0) in_table ∙ ap {B = ℕ} (λ b. cond b 1 0) (eq-eqb table table refl) in
+          omega (arith, number, f.length_is, f.reserved_is, removes.counts (stands_in table), one)
 
-    pub freed-kept : (ids : ℕ) (shared : Entries) (ops : List Held) → count_by (is_held_rule r.rule.id) ops ≡ 0 → AreKeptFor ids t shared ops
-        → AreKeptFor ids (with_table table (freed r.rule.id) t) shared ops
-    freed-kept ids shared ops alone kept = record {
-      tables = have-with table (freed r.rule.id) t (HasReserved ids ops) (λ q other. kept.tables q) here;
-      each = keep-held r.rule.id t (with_table table (freed r.rule.id) t) shared free-reserved ops alone kept.each;
-      used = kept.used;
-      number = kept.number;
-    } where
-      here : HasReserved ids ops table (option_map (freed r.rule.id) (table_of table t))
-      here = subst (λ o. HasReserved ids ops table (option_map (freed r.rule.id) o)) (sym is) now where
-        before : IsReservedFor ids table ops at
-        before = subst (HasReserved ids ops table) is (kept.tables table)
+  pub freed-kept : (ids : ℕ) (shared : Entries) (ops : List Held) → count_by (is_held_rule r.rule.id) ops ≡ 0 → AreKeptFor ids t shared ops
+      → AreKeptFor ids (with_table table (freed r.rule.id) t) shared ops
+  freed-kept ids shared ops alone kept = record {
+    tables = have-with table (freed r.rule.id) t (HasReserved ids ops) (λ q other. kept.tables q) here;
+    each = keep-held r.rule.id t (with_table table (freed r.rule.id) t) shared free-reserved ops alone kept.each;
+    used = kept.used;
+    number = kept.number;
+  } where
+    here : HasReserved ids ops table (option_map (freed r.rule.id) (table_of table t))
+    here = subst (λ o. HasReserved ids ops table (option_map (freed r.rule.id) o)) (sym is) now where
+      before : IsReservedFor ids table ops at
+      before = subst (HasReserved ids ops table) is (kept.tables table)
 
-        now : IsReservedFor ids table ops (freed r.rule.id at)
-        now = record {
-          number = (freeing r.rule.id r.rule at found).reserved_is ∙ before.number;
-          given = freed-given ids r.rule.id at before.given;
-          above = subst (IsAbove ids) (sym (freed-greatest r.rule.id at)) before.above;
-        }
+      now : IsReservedFor ids table ops (freed r.rule.id at)
+      now = record {
+        number = (freeing r.rule.id r.rule at found).reserved_is ∙ before.number;
+        given = freed-given ids r.rule.id at before.given;
+        above = subst (IsAbove ids) (sym (freed-greatest r.rule.id at)) before.above;
+      }
 
 -- the table of a rule that stands in one, with its slot
 pub record StandsAt (r : Placed) (table : ℕ) (t : TemplatesView) : Type 0 where

@@ -56,19 +56,19 @@ none-free id entries ops ids used free =
 
 -- what is held for other ids stands as it did
 module _ (id : ℕ) (t : TemplatesView) (shared shared' : Entries)
-  (same : (q : ℕ) (value : Action) → nat_eq id q ≡ false → entry_at q shared ≡ Some (created value true) → entry_at q shared' ≡ Some (created value true)) where
-    held-at : (op : Held) → is_held_shared id op ≡ false → IsHeldIn t shared op → IsHeldIn t shared' op
-    held-at (held.RuleCreated rule k) other is = is
-    held-at (held.RuleDestroyed q) other is = tt
-    held-at (held.SharedCreated q value) other is = same q value other is
-    held-at (held.SharedUpdated q value) other is = tt
-    held-at (held.SharedDestroyed q) other is = tt
+    (same : (q : ℕ) (value : Action) → nat_eq id q ≡ false → entry_at q shared ≡ Some (created value true) → entry_at q shared' ≡ Some (created value true)) where
+  held-at : (op : Held) → is_held_shared id op ≡ false → IsHeldIn t shared op → IsHeldIn t shared' op
+  held-at (held.RuleCreated rule k) other is = is
+  held-at (held.RuleDestroyed q) other is = tt
+  held-at (held.SharedCreated q value) other is = same q value other is
+  held-at (held.SharedUpdated q value) other is = tt
+  held-at (held.SharedDestroyed q) other is = tt
 
-    pub each-shared : (ops : List Held) → count_by (is_held_shared id) ops ≡ 0 → All (IsHeldIn t shared) ops → All (IsHeldIn t shared') ops
-    each-shared [] none all = All-nil (IsHeldIn t shared')
-    each-shared (op ∷ ops) none all =
-        let parts = none-first (is_held_shared id) op ops none in
-        All-cons (IsHeldIn t shared') op ops (held-at op parts.0 (All-head (IsHeldIn t shared) op ops all)) (each-shared ops parts.1 (All-tail (IsHeldIn t shared) op ops all))
+  pub each-shared : (ops : List Held) → count_by (is_held_shared id) ops ≡ 0 → All (IsHeldIn t shared) ops → All (IsHeldIn t shared') ops
+  each-shared [] none all = All-nil (IsHeldIn t shared')
+  each-shared (op ∷ ops) none all =
+      let parts = none-first (is_held_shared id) op ops none in
+      All-cons (IsHeldIn t shared') op ops (held-at op parts.0 (All-head (IsHeldIn t shared) op ops all)) (each-shared ops parts.1 (All-tail (IsHeldIn t shared) op ops all))
 
 -- ids that differ, the other way round
 turned : (a b : ℕ) → nat_eq a b ≡ false → nat_eq b a ≡ false
@@ -86,8 +86,12 @@ shared-kept ids id value t shared ops distinct distinct' free kept = record {
   each = each-shared id t shared (added id value false shared) (λ q v other is. at q ∙ ap (λ b. cond b (Some (created value false)) (entry_at q shared)) (turned id q other) ∙ is)
       ops (none-free id shared ops distinct (kept.used id) free) kept.each;
   used = λ q. used-is q (added id value false shared) (waits_for q ops) _ distinct' (at q) (by q (nat_eq q id));
-  number = omega (arith, kept.number, length-append shared ((id, created value false) ∷ []),
-      ap length (values-append shared ((id, created value false) ∷ [])) ∙ length-append (values_in_effect shared) ((id, value) ∷ []));
+  number = omega (
+    arith,
+    kept.number,
+    length-append shared ((id, created value false) ∷ []),
+    ap length (values-append shared ((id, created value false) ∷ [])) ∙ length-append (values_in_effect shared) ((id, value) ∷ []),
+  );
 } where
   at : (q : ℕ) → entry_at q (added id value false shared) ≡ cond (nat_eq q id) (Some (created value false)) (entry_at q shared)
   at q = entry_at-pushed id (created value false) q shared free

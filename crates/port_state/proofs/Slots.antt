@@ -116,7 +116,7 @@ module _ (id : ℕ) (change : TableView → TableView) (t : TemplatesView) where
     some table true same found =
         let here : table_of q t ≡ Some table = subst (λ k. table_of k t ≡ Some table) (sym (eqb-true q id same)) found in
         subst (λ k. lookup (nat_eq q) (set_value (nat_eq k) t.tables (change table)) ≡ Some (change table)) (eqb-true q id same)
-            (lookup-written q t.tables table (change table) here)
+        (lookup-written q t.tables table (change table) here)
         ∙ sym (ap (option_map change) here)
 
     by : (o : Option TableView) → table_of id t ≡ o → table_of q (changed_if id change t o) ≡ cond (nat_eq q id) (option_map change (table_of q t)) (table_of q t)

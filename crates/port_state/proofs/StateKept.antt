@@ -217,14 +217,23 @@ fits-tried limits s (held.RuleDestroyed id) list behind v fit on others may = by
     may = may;
   }
   by false = record {
-    numbers = v.numbers; port = v.port; queues = v.queues; values = v.shared; plain = v.plain; held_queues = others;
+    numbers = v.numbers;
+    port = v.port;
+    queues = v.queues;
+    values = v.shared;
+    plain = v.plain;
+    held_queues = others;
     within = λ q. omega (arith, v.tables q, behind (is_held_in q));
-    room = v.room; may = may;
+    room = v.room;
+    may = may;
   }
 fits-tried limits s (held.SharedCreated new value) list behind v fit on others may = record {
-  numbers = v.numbers; port = v.port; queues = v.queues;
+  numbers = v.numbers;
+  port = v.port;
+  queues = v.queues;
   values = AreSharedOn-with limits.rxq new value s.shared fit v.shared;
-  plain = v.plain; held_queues = others;
+  plain = v.plain;
+  held_queues = others;
   within = λ q. omega (arith, v.tables q, behind (is_held_in q));
   room = v.room;
   may = λ ranges. all-set limits.rxq new value s.shared list fit (kind-created s new value list behind v.apart) (may ranges);
@@ -233,17 +242,26 @@ fits-tried limits s (held.SharedUpdated new value) list behind v fit on others m
   by : (b : Bool) → has_kind_of value (shared_at new s.shared) ≡ b
       → Fits limits (cond b (shared_set new value s) s).rules (cond b (shared_set new value s) s).shared s.ids s.rxq s.templates.tables list
   by true is = record {
-    numbers = v.numbers; port = v.port; queues = v.queues;
+    numbers = v.numbers;
+    port = v.port;
+    queues = v.queues;
     values = AreSharedOn-with limits.rxq new value s.shared (IsSharedOn-queued limits.rxq value fit) v.shared;
-    plain = v.plain; held_queues = others;
+    plain = v.plain;
+    held_queues = others;
     within = λ q. omega (arith, v.tables q, behind (is_held_in q));
     room = v.room;
     may = λ ranges. all-set limits.rxq new value s.shared list (IsSharedOn-queued limits.rxq value fit) (kind-updated value (shared_at new s.shared) is) (may ranges);
   }
   by false is = record {
-    numbers = v.numbers; port = v.port; queues = v.queues; values = v.shared; plain = v.plain; held_queues = others;
+    numbers = v.numbers;
+    port = v.port;
+    queues = v.queues;
+    values = v.shared;
+    plain = v.plain;
+    held_queues = others;
     within = λ q. omega (arith, v.tables q, behind (is_held_in q));
-    room = v.room; may = may;
+    room = v.room;
+    may = may;
   }
 fits-tried limits s (held.SharedDestroyed new) list behind v fit on others may = by (is_none (shared_calls.destroy_fault (objects s) new)) refl where
   fault-none : (o : Option Fault) → is_none o ≡ true → o ≡ None
@@ -255,17 +273,26 @@ fits-tried limits s (held.SharedDestroyed new) list behind v fit on others may =
   by true is =
       let unused = (may-go s new (fault-none (shared_calls.destroy_fault (objects s) new) is)).unused in
       record {
-        numbers = v.numbers; port = v.port; queues = v.queues;
+        numbers = v.numbers;
+        port = v.port;
+        queues = v.queues;
         values = AreSharedOn-without limits.rxq new s.shared v.shared;
-        plain = v.plain; held_queues = others;
+        plain = v.plain;
+        held_queues = others;
         within = λ q. omega (arith, v.tables q, behind (is_held_in q));
         room = v.room;
         may = λ ranges. all-gone limits.rxq new s.shared list (omega (arith, unused, behind (is_held_user new))) (may ranges);
       }
   by false is = record {
-    numbers = v.numbers; port = v.port; queues = v.queues; values = v.shared; plain = v.plain; held_queues = others;
+    numbers = v.numbers;
+    port = v.port;
+    queues = v.queues;
+    values = v.shared;
+    plain = v.plain;
+    held_queues = others;
     within = λ q. omega (arith, v.tables q, behind (is_held_in q));
-    room = v.room; may = may;
+    room = v.room;
+    may = may;
   }
 
 templates-taken : (s : State) (op : Held) → (taken s op).templates ≡ s.templates
@@ -333,8 +360,12 @@ IsUnder-waiting limits q (held.RuleCreated rule table) s there can on may v =
           → count_by (is_held_in id) (all_held (waiting q (held.RuleCreated rule table) s)) ≡ count_by (is_held_in id) (all_held s) + cond b 1 0
           → count_by (stands_in id) s.rules + count_by (is_held_in id) (all_held (waiting q (held.RuleCreated rule table) s)) ≤ room_at id s.templates.tables
       by id true is most more =
-          omega (arith, more, subst (λ k. count_by (stands_in k) s.rules + count_by (is_held_in k) (all_held s) < room_at k s.templates.tables) (sym (eqb-true id table is))
-          (slot-free s.rules (all_held s) table s.templates.tables can.2 can.3 (v.tables table)))
+          omega (
+            arith,
+            more,
+            subst (λ k. count_by (stands_in k) s.rules + count_by (is_held_in k) (all_held s) < room_at k s.templates.tables) (sym (eqb-true id table is))
+                (slot-free s.rules (all_held s) table s.templates.tables can.2 can.3 (v.tables table)),
+          )
       by id false is most more = omega (arith, most, more)
 IsUnder-waiting limits q (held.RuleDestroyed rule) s there can on may v =
     waits limits q (held.RuleDestroyed rule) s v (AreApart-waiting q (held.RuleDestroyed rule) s there can v.apart) there on may (λ id. refl) refl

@@ -92,9 +92,9 @@ kept-popped ids t shared q s ok op ops is kept =
     kept-same ids t shared (all_held s) (op ∷ all_held (with_queue q (popped q s ok) s))
     (λ test. omega (arith, count-cons test op (all_held (with_queue q (popped q s ok) s)), first-behind q s ok op ops is test))
     (λ P all.
-        let here = subst (All P) is (all-at P q s all) in
-        All-cons P op (all_held (with_queue q (popped q s ok) s)) (All-head P op ops here)
-            (all-with_queue P q (popped q s ok) s all (subst (λ (list : List Held). All P (drop 1 list)) (sym is) (All-tail P op ops here))))
+    let here = subst (All P) is (all-at P q s all) in
+    All-cons P op (all_held (with_queue q (popped q s ok) s)) (All-head P op ops here)
+    (all-with_queue P q (popped q s ok) s all (subst (λ (list : List Held). All P (drop 1 list)) (sym is) (All-tail P op ops here))))
     kept
 
 -- what fails was no creation

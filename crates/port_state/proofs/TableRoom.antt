@@ -129,10 +129,23 @@ few-in-tables tables rules list within =
     let placed = filter_map table_key rules in
     let waits = filter_map held_key list in
     let most = few-keys tables (placed ++ waits) (λ id.
-    omega (arith, within id, sum_by-append (λ k. cond (nat_eq id k) 1 0) placed waits, count-keys table_key id rules, count-keys held_key id list,
-    count-same (λ (op : Held). is_table id (held_key op)) (is_held_in id) (held-in id) list)) in
-    omega (arith, most, length-append placed waits, length-keys table_key rules, length-keys held_key list,
-    count-same (λ (r : Placed). is_some (table_key r)) is_in_table some-table rules, count-same (λ (op : Held). is_some (held_key op)) is_creation held-creation list)
+    omega (
+      arith,
+      within id,
+      sum_by-append (λ k. cond (nat_eq id k) 1 0) placed waits,
+      count-keys table_key id rules,
+      count-keys held_key id list,
+      count-same (λ (op : Held). is_table id (held_key op)) (is_held_in id) (held-in id) list,
+    )) in
+    omega (
+      arith,
+      most,
+      length-append placed waits,
+      length-keys table_key rules,
+      length-keys held_key list,
+      count-same (λ (r : Placed). is_some (table_key r)) is_in_table some-table rules,
+      count-same (λ (op : Held). is_some (held_key op)) is_creation held-creation list,
+    )
 
 -- the slots of a table as it is judged are those of its rules, and those of the creations that are held for it
 length-slots : (id : ℕ) (list : List Held) → length (filter_map (held_slot id) list) ≡ count_by (is_held_in id) list
@@ -149,8 +162,13 @@ length-slots id (held.SharedDestroyed new ∷ list) = omega (arith, length-slots
 
 slots-in : (rules : List Placed) (list : List Held) (e : ℕ × Table) → length (table_in rules list e).1.slots ≡ count_by (stands_in e.0) rules + count_by (is_held_in e.0) list
 slots-in rules list e =
-    omega (arith, length-append (map slot_of (filter (stands_in e.0) rules)) (filter_map (held_slot e.0) list), length-map (filter (stands_in e.0) rules) slot_of,
-    length-filter (stands_in e.0) rules, length-slots e.0 list)
+    omega (
+      arith,
+      length-append (map slot_of (filter (stands_in e.0) rules)) (filter_map (held_slot e.0) list),
+      length-map (filter (stands_in e.0) rules) slot_of,
+      length-filter (stands_in e.0) rules,
+      length-slots e.0 list,
+    )
 
 -- what is judged of the table of an id
 abbrev pub found : List Placed → List Held → ℕ → List (ℕ × Table) → Option TableView
@@ -221,5 +239,9 @@ room_at-more q (x ∷ tables) e = by (nat_eq q x.0) (room_at-more q tables e) wh
 pub rules_of-found : (rules : List Placed) (list : List Held) (tables : List (ℕ × Table)) → rules_of (values_of (map (table_in rules list) tables)) ≡ room_of tables
 rules_of-found rules list [] = refl
 rules_of-found rules list (e ∷ tables) =
-    omega (arith, rules_of-found rules list tables, sum_by-cons (λ (x : ℕ × Table). x.1.rules_number) e tables,
-    sum_by-cons (λ (t : TableView). t.rules_number) (table_in rules list e).1 (values_of (map (table_in rules list) tables)))
+    omega (
+      arith,
+      rules_of-found rules list tables,
+      sum_by-cons (λ (x : ℕ × Table). x.1.rules_number) e tables,
+      sum_by-cons (λ (t : TableView). t.rules_number) (table_in rules list e).1 (values_of (map (table_in rules list) tables)),
+    )

@@ -143,16 +143,23 @@ behind-with_queue q queue s op is test =
 
 pub behind-stepped : (q : ℕ) (s : State) (op : Held) (ops : List Held) → (queue_at q s).held ≡ op ∷ ops → AreBehind op (all_held (stepped q s op)) (all_held s)
 behind-stepped q s op ops is test =
-    omega (arith, ap (λ (all : List Held). count_by test all) (held-stepped q s op), count-set test s.queues q (queue_behind q s op) (there-held q s op ops is),
-    ap (λ (list : List Held). count_by test list) is, ap (λ (list : List Held). count_by test (drop 1 list)) is, count_by-first test op ops)
+    omega (
+      arith,
+      ap (λ (all : List Held). count_by test all) (held-stepped q s op),
+      count-set test s.queues q (queue_behind q s op) (there-held q s op ops is),
+      ap (λ (list : List Held). count_by test list) is,
+      ap (λ (list : List Held). count_by test (drop 1 list)) is,
+      count_by-first test op ops,
+    )
 
 pub all-stepped : (P : Held → Type 0) (q : ℕ) (s : State) (op : Held) (ops : List Held) → (queue_at q s).held ≡ op ∷ ops → All P (all_held s)
     → P op × All P (all_held (stepped q s op))
 all-stepped P q s op ops is all =
-    let here = subst (All P) is (all-at P q s all) in
-    (All-head P op ops here,
-    subst (All P) (sym (held-stepped q s op))
-    (all-set P s.queues q (queue_behind q s op) all (subst (λ (list : List Held). All P (drop 1 list)) (sym is) (All-tail P op ops here))))
+    let here = subst (All P) is (all-at P q s all) in (
+      All-head P op ops here,
+      subst (All P) (sym (held-stepped q s op))
+          (all-set P s.queues q (queue_behind q s op) all (subst (λ (list : List Held). All P (drop 1 list)) (sym is) (All-tail P op ops here))),
+    )
 
 -- the queue holds the operations behind the first
 pub rest-stepped : (q : ℕ) (s : State) (op : Held) (ops : List Held) → (queue_at q s).held ≡ op ∷ ops → (queue_at q (stepped q s op)).held ≡ ops

@@ -43,7 +43,8 @@ impl State {
         ensures rule { IfOk result (λ spec. bound (state_in self.now) table pt act lists.now ≡ Some spec) }
         ensures fault { result_err result ≡ first (bind_refusals (templates_in (state_in self.now)) table pt act lists.now.pattern lists.now.actions) }
     {
-        self.templates.bind(table, pt, act, &lists.pattern, &lists.actions)
+        self.templates
+            .bind(table, pt, act, &lists.pattern, &lists.actions)
     }
 
     /// The rule of a specification, or why it can't be created in a table.

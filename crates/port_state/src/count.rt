@@ -3,8 +3,8 @@ ghost use Rattle.std.specs.Prelude.{◌≡◌, ◌<◌, ◌+◌, ◌^◌, length
 ghost use Rattle.port_state.specs.Counted.{counted, HasRoom};
 ghost use Rattle.flow_rules.specs.OnPort.{IsBelow};
 
-use flow_calls::Totals;
 use flow_actions::Fate;
+use flow_calls::Totals;
 
 /// Counts a frame of this fate.
 pub(crate) fn count(totals: &mut Totals, fate: Fate)

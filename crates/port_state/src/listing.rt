@@ -2,9 +2,9 @@
 ghost use Rattle.std.specs.Prelude.{◌≡◌, ◌≤◌, length, map, IfOk};
 ghost use Rattle.flow_calls.specs.Rows.{row_of, action_kinds};
 
-use flow_calls::{ListRow, RuleList};
 use arrayvec::ArrayVec;
 use flow_actions::{Action, ActionKind, MAX_ACTIONS};
+use flow_calls::{ListRow, RuleList};
 use flow_rules::Rule;
 use rules_in_effect::InEffect;
 use std::alloc::{AllocError, Global};

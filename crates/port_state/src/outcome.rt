@@ -17,13 +17,11 @@ ghost use Rattle.port_state.specs.declared.effect.Effect.TheVariants as effects;
 ghost use Rattle.port_state.specs.declared.effect.RuleEffect.TheVariants as rules;
 ghost use Rattle.flow_calls.specs.declared.reply.Reply.TheVariants as replies;
 
-use flow_calls::Op;
 use crate::effect::{Effect, RuleEffect};
 use crate::queue_calls::{
     QueuePlace, configured, pulled, pushed, rule_end_held, rule_held, shared_end_held, shared_held,
     shared_update_held,
 };
-use flow_calls::Reply;
 use crate::standing::Standing;
 use crate::state::{State, plain};
 use crate::template_calls::{
@@ -31,6 +29,7 @@ use crate::template_calls::{
     table_destroyed,
 };
 use flow_actions::Action;
+use flow_calls::{Op, Reply};
 use flow_rules::{Attr, Cause, Fault, Limits, Rule, RuleSpec, validate};
 use shared_value::Shared;
 use std::alloc::{AllocError, Global};
@@ -63,10 +62,7 @@ pub fn judge(
         Op::Flush => Ok(changes_rules(Reply::Flushed, RuleEffect::Flushed)),
         Op::Query(id) => Ok(replies(standing.state.query(*id))),
         Op::List => Ok(replies(Reply::Listed(standing.state.list(alloc)?))),
-        Op::Isolate(on) => Ok(changes_rules(
-            Reply::Isolated(*on),
-            RuleEffect::Isolated(*on),
-        )),
+        Op::Isolate(on) => Ok(changes_rules(Reply::Isolated(*on), RuleEffect::Isolated(*on))),
         Op::IndirectCreate { id, attr, action } => Ok(shared_created(
             limits,
             &standing.state,
@@ -104,7 +100,16 @@ pub fn judge(
             lists,
         } => {
             let place = QueuePlace::new(*queue, *postpone);
-            rule_held(alloc, limits, &standing.state, place, *table, *pt, *act, lists.get())
+            rule_held(
+                alloc,
+                limits,
+                &standing.state,
+                place,
+                *table,
+                *pt,
+                *act,
+                lists.get(),
+            )
         }
         Op::QueueDestroy {
             queue,
@@ -226,10 +231,7 @@ fn takes_effect(alloc: Global, rule: Rule) -> Result<Judged, AllocError>
     let id = rule.id();
     let rule = Shared::new(alloc, rule)?;
     let told = rule.clone()?;
-    Ok(changes_rules(
-        Reply::Created(id),
-        RuleEffect::Created(rule, told),
-    ))
+    Ok(changes_rules(Reply::Created(id), RuleEffect::Created(rule, told)))
 }
 
 fn destroyed(state: &State, id: u32) -> Judged

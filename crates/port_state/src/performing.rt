@@ -91,8 +91,10 @@ impl State {
         requires there { queue < length self.old.queues }
         requires waits { 1 ≤ length (queue_at queue (state_in self.old)).held }
         ensures first { (queue_at queue (state_in self.old)).held ≡ result ∷ drop 1 (queue_at queue (state_in self.old)).held }
-        ensures others { self.new ≡ record self.old { queues = slice_set self.old.queues queue
-            (record { held = drop 1 (queue_at queue (state_in self.old)).held; results = (queue_at queue (state_in self.old)).results ++ ok ∷ [] }) } }
+        ensures others { self.new ≡ record self.old {
+          queues = slice_set self.old.queues queue
+              (record { held = drop 1 (queue_at queue (state_in self.old)).held; results = (queue_at queue (state_in self.old)).results ++ ok ∷ [] });
+        } }
     {
         let op = self.queues[queue as usize].pop_held().unwrap();
         self.queues[queue as usize].finish(ok);

@@ -271,8 +271,5 @@ pub(crate) fn pulled(alloc: Global, state: &State, queue: u16) -> Result<Judged,
         return Ok(refuses(fault));
     }
     let results = Shared::new(alloc, state.results(queue))?;
-    Ok(changes_queues(
-        Reply::Pulled(queue, results),
-        QueueEffect::Pulled(queue),
-    ))
+    Ok(changes_queues(Reply::Pulled(queue, results), QueueEffect::Pulled(queue)))
 }

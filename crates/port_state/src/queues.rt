@@ -78,7 +78,9 @@ impl State {
     {
         match effect {
             QueueEffect::Enqueued {
-                queue, postpone, ..
+                queue,
+                postpone,
+                ..
             } => {
                 if *postpone {
                     0

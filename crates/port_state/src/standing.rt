@@ -9,9 +9,9 @@ ghost use Rattle.port_state.specs.Raising.{HasRoomFor};
 ghost use Rattle.port_state.specs.Standing.{Counts, standing_kept};
 
 use crate::count::count;
-use flow_calls::Totals;
 use crate::state::State;
 use flow_actions::Fate;
+use flow_calls::Totals;
 
 /// The state, and what else a call's reply depends on.
 #[derive(Drop)]

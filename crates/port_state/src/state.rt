@@ -25,8 +25,8 @@ use crate::held::Held;
 use crate::listing::list_of;
 use crate::performing::is_held_used;
 use crate::raising::raise_all;
-use flow_calls::{Reply, RuleList};
 use flow_actions::{Action, ActionKind};
+use flow_calls::{Reply, RuleList};
 use flow_rules::{
     Attr, Cause, Count, Fault, FlowsInEffect, Known, Limits, Rule, has_count, is_count,
 };

@@ -11,11 +11,10 @@ ghost use Rattle.port_state.specs.Effect.{AreTemplatesDue, changes_done, done, t
 ghost use Rattle.port_state.specs.Reply.{unless};
 ghost use Rattle.flow_calls.specs.declared.reply.Reply.TheVariants as replies;
 
-use flow_calls::{ActionLists, TableTemplates};
 use crate::effect::{Effect, TemplateEffect};
 use crate::outcome::{Judged, refuses};
-use flow_calls::Reply;
 use crate::state::State;
+use flow_calls::{ActionLists, Reply, TableTemplates};
 use flow_rules::{Attr, Fault};
 use pattern_items::Pattern;
 use shared_value::Shared;

@@ -9,8 +9,8 @@ ghost use Rattle.port_state.specs.KeptState.{state_in, count_in};
 ghost use Rattle.port_state.specs.State.{templates_in, with_templates};
 ghost use Rattle.port_state.specs.Tables.{pattern_made, actions_made, table_made, pattern_gone, actions_gone, table_gone};
 
-use flow_calls::{ActionLists, TableTemplates};
 use crate::state::State;
+use flow_calls::{ActionLists, TableTemplates};
 use flow_rules::{Attr, Fault};
 use pattern_items::Pattern;
 use std::alloc::AllocError;

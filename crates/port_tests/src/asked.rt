@@ -3,8 +3,8 @@ ghost use Rattle.port_tests.specs.Asking.{CanAsk, IsPair, IsReady};
 
 use crate::seats::{Pair, close_pair, open_pair, open_port};
 use adapter::Adapter;
-use flow_calls::{At, Call, Caller, EntryView, Op, Reply};
 use flow_actions::Action;
+use flow_calls::{At, Call, Caller, EntryView, Op, Reply};
 use flow_port::{FlowPort, PortSeat};
 use flow_rules::{Cause, Fault, Limits, RuleSpec};
 use packet_headers::ItemKind;

@@ -17,8 +17,8 @@ ghost use Rattle.testpmd_shell.specs.Sending.{record_of, records_kept, kept_in, 
 use crate::feed::Arrived;
 use crate::sent::Sent;
 use adapter::Adapter;
-use flow_calls::{Caller, Parcel};
 use flow_actions::{Fate, Verdict};
+use flow_calls::{Caller, Parcel};
 use flow_rules::Limits;
 use packet_headers::{Key, parse};
 use replica::Replica;

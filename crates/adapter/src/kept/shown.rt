@@ -7,10 +7,9 @@ ghost use Rattle.adapter.specs.KeptLine.{IsLineOf};
 
 use super::{Head, Kept, Plain, Steps};
 use crate::line::LineView;
-use flow_calls::EntryView;
-use flow_calls::Parcel;
 use arrayvec::ArrayVec;
 use flow_actions::{MAX_PATH, Verdict};
+use flow_calls::{EntryView, Parcel};
 use packet_headers::{Eth, Key, Network, Stack, Tags};
 
 /// The entry, from what is kept of it.

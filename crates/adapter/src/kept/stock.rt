@@ -5,10 +5,9 @@ ghost use Rattle.adapter.specs.Kept.{entry_kept, entry_with, plain_key};
 
 use super::shown::{same_parcel, same_verdict};
 use super::{Kept, Long, Plain, head_of, plain_of};
-use flow_calls::Caller;
-use flow_calls::Parcel;
 use arrayvec::ArrayVec;
 use flow_actions::{Fate, Verdict};
+use flow_calls::{Caller, Parcel};
 use packet_headers::Key;
 use std::alloc::{AllocError, Global};
 

@@ -9,8 +9,8 @@ use crate::held::Held;
 use crate::port::FlowPort;
 use crate::seat::PortSeats;
 use adapter::Adapter;
-use flow_calls::Caller;
 use arrayvec::ArrayVec;
+use flow_calls::Caller;
 use std::alloc::Global;
 use turn_book::Book;
 

@@ -32,9 +32,9 @@ returns-clause-others c =
     let second : c.index_mut-2.result.now ≡ c.pop_held.new.self = c.index_mut-2.ensures.value ∙ get_or-set_same s.queues.items q c.pop_held.new.self _ below in
     let behind : queue_of c.finish.new.self ≡ popped q (state_in (state_kept s)) c.args.ok
     = popped-is now c.finish.new.self q (state_kept s) c.args.ok at
-        (ap (λ (x : Queue Held). x.held) c.finish.ensures ∙ ap (λ (x : Queue Held). x.held) (second ∙ without))
-        (ap (λ (x : Queue Held). x.results) c.finish.ensures ∙ ap (λ (x : Queue Held). x.results ++ c.args.ok ∷ []) (second ∙ without)) in
+    (ap (λ (x : Queue Held). x.held) c.finish.ensures ∙ ap (λ (x : Queue Held). x.held) (second ∙ without))
+    (ap (λ (x : Queue Held). x.results) c.finish.ensures ∙ ap (λ (x : Queue Held). x.results ++ c.args.ok ∷ []) (second ∙ without)) in
     ap (λ (items : List (Queue Held)). record (state_kept s) { queues = map queue_of items }) (set-set s.queues.items q c.pop_held.new.self c.finish.new.self)
     ∙ ap (λ (queues : List FlowQueue). record (state_kept s) { queues = queues })
-        (queues-set s.queues.items q c.finish.new.self ∙ ap (slice_set (map queue_of s.queues.items) q) behind)
+    (queues-set s.queues.items q c.finish.new.self ∙ ap (slice_set (map queue_of s.queues.items) q) behind)
     ∙ ap (λ (k : KeptState). record k { queues = slice_set k.queues q (popped q (state_in k) c.args.ok) }) c.self.view_is

@@ -25,7 +25,7 @@ returns-then-in_flight-self c =
     let none = sym c.queue_fault.ensures ∙ c.in_default.is in
     let below = kept-below s _ c.self.view_is c.args.queue none in
     let is = same-flight s.queues.items s.queue_size c.args.queue c.index.result.now c.self.invariant.queues below
-        ∙ sym (c.in_flight.ensures.number ∙ ap (λ (q : Queue Held). op_queues.in_flight q) c.index.ensures) in
+    ∙ sym (c.in_flight.ensures.number ∙ ap (λ (q : Queue Held). op_queues.in_flight q) c.index.ensures) in
     ap Some c.plain.ensures
     ∙ sym (full-some (state_in (state_kept s)) c.args.queue c.in_flight.result (ap (λ (k : KeptState). queue_fault (state_in k) c.args.queue) c.self.view_is ∙ none) is c.if-in_flight-self.true)
     ∙ ap (λ (k : KeptState). full_fault (state_in k) c.args.queue) c.self.view_is
@@ -36,6 +36,6 @@ returns c =
     let none = sym c.queue_fault.ensures ∙ c.in_default.is in
     let below = kept-below s _ c.self.view_is c.args.queue none in
     let is = same-flight s.queues.items s.queue_size c.args.queue c.index.result.now c.self.invariant.queues below
-        ∙ sym (c.in_flight.ensures.number ∙ ap (λ (q : Queue Held). op_queues.in_flight q) c.index.ensures) in
+    ∙ sym (c.in_flight.ensures.number ∙ ap (λ (q : Queue Held). op_queues.in_flight q) c.index.ensures) in
     sym (full-none (state_in (state_kept s)) c.args.queue c.in_flight.result (ap (λ (k : KeptState). queue_fault (state_in k) c.args.queue) c.self.view_is ∙ none) is c.if-in_flight-self.false)
     ∙ ap (λ (k : KeptState). full_fault (state_in k) c.args.queue) c.self.view_is

@@ -69,7 +69,7 @@ returns-clause-state c =
     let t = c.args.templates.now in
     let is = state-made c.self.inside c.create_table.new.self c.args.id c.args.attr.now c.args.rules_number t.patterns.items t.actions.items _ c.create_table.result c.self.view_is c.create_table.ensures.made in
     elim c.match-create_table.branch [
-      in-Ok w ↦ on-ok c.match-create_table.result _ (ok-of c.create_table.result w.in-Ok.field-0 _ w.in-Ok.is is)
+      | in-Ok w ↦ on-ok c.match-create_table.result _ (ok-of c.create_table.result w.in-Ok.field-0 _ w.in-Ok.is is)
       | in-Err w ↦ err-on c.match-create_table.result _ _ w.result-is
     ]
 
@@ -79,6 +79,6 @@ returns-clause-kept c =
     let is = kept-made c.self.inside c.create_table.new.self c.args.id c.args.attr.now c.args.rules_number t.patterns.items t.actions.items _ c.create_table.result c.self.view_is
     c.create_table.ensures.fresh c.create_table.ensures.made in
     elim c.match-create_table.branch [
-      in-Ok w ↦ on-ok c.match-create_table.result _ (ok-of c.create_table.result w.in-Ok.field-0 _ w.in-Ok.is is)
+      | in-Ok w ↦ on-ok c.match-create_table.result _ (ok-of c.create_table.result w.in-Ok.field-0 _ w.in-Ok.is is)
       | in-Err w ↦ err-on c.match-create_table.result _ _ w.result-is
     ]

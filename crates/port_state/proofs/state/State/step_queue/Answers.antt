@@ -29,12 +29,12 @@ take-requires-clause-ready c =
     let ok : succeeds (state_in k) op ≡ true = sym (c.first_succeeds-ok.ensures op ops is) ∙ c.if-ok.true in
     subst (λ (x : KeptState). IsReady x op) (sym c.finish_first-op.ensures.others)
     (ready-with k (slice_set k.queues q (popped q (state_in k) c.first_succeeds-ok.result)) op
-        (ready-first k op
-            (subst (λ (x : KeptState). IsDistinct nat_eq (keys_of x.shared)) c.self.view_is c.len-number.ensures.sound.ids)
-            (first-of (IsHeldIn k.templates k.shared) q (state_in k) op ops is c.requires.kept.each)
-            (none-counted (state_in k) op (all_held (with_queue q (popped q (state_in k) true) (state_in k))) (first-behind q (state_in k) true op ops is) c.requires.apart)
-            (first-of (IsFit k.rxq) q (state_in k) op ops is c.requires.apart.fit)
-            ok))
+    (ready-first k op
+    (subst (λ (x : KeptState). IsDistinct nat_eq (keys_of x.shared)) c.self.view_is c.len-number.ensures.sound.ids)
+    (first-of (IsHeldIn k.templates k.shared) q (state_in k) op ops is c.requires.kept.each)
+    (none-counted (state_in k) op (all_held (with_queue q (popped q (state_in k) true) (state_in k))) (first-behind q (state_in k) true op ops is) c.requires.apart)
+    (first-of (IsFit k.rxq) q (state_in k) op ops is c.requires.apart.fit)
+    ok))
 
 pub first_succeeds-ok-requires-clause-fit : goal.first_succeeds-ok-requires-clause-fit
 first_succeeds-ok-requires-clause-fit c = all-at (IsFit c.args.self.now.rxq) c.args.queue (state_in c.args.self.now) c.requires.apart.fit
@@ -84,12 +84,12 @@ returns-then-ok-clause-kept c =
     let others = behind-is k c.finish_first-op.new.self q c.first_succeeds-ok.result true c.finish_first-op.ensures.others c.if-ok.true in
     let held : all_held (state_in c.take.new.self) ≡ all_held (with_queue q (popped q s true) s)
     = ap all_held (c.take.ensures.state ∙ ap (λ (x : KeptState). taken (state_in x) op) others)
-      ∙ ap (λ (qs : List FlowQueue). all_held (record s { queues = qs })) (queues-taken (with_queue q (popped q s true) s) op) in
+    ∙ ap (λ (qs : List FlowQueue). all_held (record s { queues = qs })) (queues-taken (with_queue q (popped q s true) s) op) in
     subst (AreKeptFor c.take.new.self.ids c.take.new.self.templates c.take.new.self.shared) (sym held)
     (c.take.ensures.kept (all_held (with_queue q (popped q s true) s))
-        (IsAlone-first s op _ (first-behind q s true op ops is) c.requires.apart ok)
-        (subst (λ (x : KeptState). AreKeptFor x.ids x.templates x.shared (op ∷ all_held (with_queue q (popped q s true) s))) (sym others)
-            (kept-popped k.ids k.templates k.shared q s true op ops is c.requires.kept)))
+    (IsAlone-first s op _ (first-behind q s true op ops is) c.requires.apart ok)
+    (subst (λ (x : KeptState). AreKeptFor x.ids x.templates x.shared (op ∷ all_held (with_queue q (popped q s true) s))) (sym others)
+    (kept-popped k.ids k.templates k.shared q s true op ops is c.requires.kept)))
 
 pub returns-else-ok-clause-kept : goal.returns-else-ok-clause-kept
 returns-else-ok-clause-kept c =

@@ -24,7 +24,7 @@ returns-clause-kept c = λ others alone kept.
     let without : (op' : Held) → _ → op ≡ op' → AreKeptFor now.ids now.templates now.shared others
     = λ op' nothing is. kept-without op' nothing now.ids now.templates now.shared others (kept-is now op op' others is kept) in
     elim c.match-op.branch [
-      in-RuleCreated w ↦ behind _ w.take_rule.new.self others w.self-is
+      | in-RuleCreated w ↦ behind _ w.take_rule.new.self others w.self-is
           (w.take_rule.ensures.kept others (alone-is op _ others w.in-RuleCreated.is alone) (kept-is now op _ others w.in-RuleCreated.is kept))
       | in-RuleDestroyed w ↦ behind _ w.destroy.new.self others w.self-is
           (w.destroy.ensures.kept others (alone-is op _ others w.in-RuleDestroyed.is alone)
