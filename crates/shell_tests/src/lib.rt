@@ -10,6 +10,8 @@ mod counters;
 #[cfg(test)]
 mod endings;
 #[cfg(test)]
+mod forty_rules;
+#[cfg(test)]
 mod marks;
 #[cfg(test)]
 mod options;
@@ -17,6 +19,8 @@ mod options;
 mod patterns;
 #[cfg(test)]
 mod phases;
+#[cfg(test)]
+mod queues;
 #[cfg(test)]
 mod rules;
 #[cfg(test)]

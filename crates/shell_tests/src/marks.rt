@@ -1,12 +1,10 @@
 //! Marks, edits of headers, and queues chosen by a hash.
-use crate::run::{ONE_QUEUE, THREE_QUEUES, TWO_QUEUES, Told, expect_told};
+use crate::run::{FOUR_QUEUES, ONE_QUEUE, THREE_QUEUES, TWO_QUEUES, Told, expect_told};
 use std::alloc::{AllocError, Global};
 use test_frames::{
     DOUBLE_TAGGED_UDP_FRAME, IPV6_FRAME, RSS_CHECK_FRAME, RUNT_FRAME, TAGGED_UDP_FRAME, UDP_FRAME,
     VXLAN_FRAME,
 };
-
-const FOUR_QUEUES: [&str; 3] = ["--cmdline-file=script", "--rx-pcap=capture", "--rxq=4"];
 
 const ROWS: [Told<'static>; 9] = [
     (

@@ -1,9 +1,7 @@
 //! Rules: groups and priorities, what becomes of them, and why they are refused.
-use crate::run::{ONE_QUEUE, Row, TWO_QUEUES, Told, expect, expect_told};
+use crate::run::{FOUR_QUEUES, ONE_QUEUE, Row, TWO_QUEUES, Told, expect, expect_told};
 use std::alloc::{AllocError, Global};
 use test_frames::UDP_FRAME;
-
-const FOUR_QUEUES: [&str; 3] = ["--cmdline-file=script", "--rx-pcap=capture", "--rxq=4"];
 
 const ROWS: [Told<'static>; 8] = [
     (

@@ -10,7 +10,7 @@ use std::sync::Wait;
 use std::thread::Threads;
 use testpmd_shell::{Status, session, session_serial};
 
-/// The words of a session without a capture, with one, and with one and two or three queues.
+/// The words of a session without a capture, with one, and with one and two, three or four queues.
 pub(crate) const SCRIPT_ALONE: [&str; 1] = ["--cmdline-file=script"];
 
 pub(crate) const ONE_QUEUE: [&str; 2] = ["--cmdline-file=script", "--rx-pcap=capture"];
@@ -22,6 +22,11 @@ pub(crate) const THREE_QUEUES: [&str; 3] = [
     "--rx-pcap=capture",
     "--rxq=3",
 ];
+
+pub(crate) const FOUR_QUEUES: [&str; 3] = ["--cmdline-file=script", "--rx-pcap=capture", "--rxq=4"];
+
+/// Room for the longest transcript.
+const SINK_ROOM: usize = 65_536;
 
 /// The header of a little-endian capture with microseconds.
 const FILE_HEADER: [u8; 24] = [
@@ -210,7 +215,7 @@ fn sink_of(alloc: Global, row: &Row<'_>) -> Result<MemSink, AllocError>
         Fails::Sink(place) => Some(place),
         _ => None,
     };
-    MemSink::new(alloc, 4096, out_at)
+    MemSink::new(alloc, SINK_ROOM, out_at)
 }
 
 /// What came of a session: its status, and what was written to the sink and to the transmit file.
