@@ -1,6 +1,6 @@
 -- An adapter stays sound behind one more entry.
 use Rattle.std.proofs.Common.{◌≡◌, ℕ, ◌+◌, ◌*◌, Bool, true, false, map, flat_map, count_by, ◌<◌, ◌≤◌, ◌^◌, List, [], ◌∷◌, ◌++◌, length, refl, sym, ap, ◌∙◌, append_assoc, append-nil, subst, arith, length-append}
-use Rattle.std.proofs.lemmas.List.Sums.{fold-append, count_by-le-length}
+use Rattle.std.proofs.lemmas.List.Sums.{count_by-le-length}
 use Rattle.std.proofs.lemmas.Nat.{mul-le}
 use Rattle.packet_headers.specs.declared.items.LayerAt.{LayerAt}
 use Rattle.flow_actions.specs.declared.verdict.Verdict.{Verdict}

@@ -63,6 +63,7 @@ pub use limits::Limits;
 pub use rule::Rule;
 pub use spec::{Attr, RuleSpec};
 pub use validation::{
-    action_fault, attr_fault, direction_fault, has_count, is_bad_value, is_count, validate,
+    action_fault, attr_fault, direction_fault, has_count, has_shared, is_bad_value, is_count,
+    validate,
 };
 pub use walk::{FlowsInEffect, classify};

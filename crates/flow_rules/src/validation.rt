@@ -291,7 +291,7 @@ pub fn has_count(list: &[Action]) -> bool
 }
 
 /// Whether one of the actions is the shared one of this id.
-fn has_shared(id: u32, list: &[Action]) -> bool
+pub fn has_shared(id: u32, list: &[Action]) -> bool
     ensures { result ≡ list_any (is_shared id) list.now }
 {
     list.iter().any(|action| is_shared(id, action))

@@ -12,15 +12,15 @@ use Rattle.port_state.specs.Apart.{AreApart, is_rule, is_held_rule, is_held_shar
 use Rattle.port_state.specs.KeptState.{KeptState, state_in}
 use Rattle.port_state.specs.State.{Placed, State, all_held, rule_in}
 use Rattle.port_state.proofs.ApartKept.{fresh-rules, some-counted}
-use Rattle.port_state.proofs.Settling.{count-cons}
+use Rattle.port_state.proofs.Waiting.{count_by-first}
 
 -- no rule has an id that isn't counted
 pub no-rule : (id : ℕ) (rules : List Placed) → count_by (is_rule id) rules ≡ 0 → rule_at id (map rule_in rules) ≡ None
 no-rule id [] none = refl
 no-rule id (r ∷ rules) none = by (nat_eq r.rule.id id) refl (no-rule id rules) where
   by : (b : Bool) → nat_eq r.rule.id id ≡ b → (count_by (is_rule id) rules ≡ 0 → rule_at id (map rule_in rules) ≡ None) → cond b (Some r.rule) (rule_at id (map rule_in rules)) ≡ None
-  by true same more = absurd (omega (arith, none, count-cons (is_rule id) r rules, ap {B = ℕ} (λ b. cond b 1 0) same))
-  by false other more = more (omega (arith, none, count-cons (is_rule id) r rules, ap {B = ℕ} (λ b. cond b 1 0) other))
+  by true same more = absurd (omega (arith, none, count_by-first (is_rule id) r rules, ap {B = ℕ} (λ b. cond b 1 0) same))
+  by false other more = more (omega (arith, none, count_by-first (is_rule id) r rules, ap {B = ℕ} (λ b. cond b 1 0) other))
 
 -- the id that is given next
 pub fresh-id : (s : State) → AreApart s → rule_at s.ids (map rule_in s.rules) ≡ None

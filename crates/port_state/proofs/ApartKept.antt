@@ -1,6 +1,6 @@
 -- The ids of held operations stay apart from those in effect and from each other, whatever is called.
-use Rattle.std.proofs.Common.{◌≡◌, ℕ, nat_eq, nat_lt, nat_le, ◌+◌, ◌-◌, ◌^◌, ◌<◌, ◌≤◌, Bool, true, false, cond, not, ◌||◌, is_some, List, [], ◌∷◌, ◌++◌, length, filter, map, Option, None, Some, IsSome, refl, sym, ap, ◌∙◌, subst, arith, true≢false}
-use Rattle.std.specs.List.{All, count_by, list_any, filter_map}
+use Rattle.std.proofs.Common.{◌≡◌, ℕ, nat_eq, nat_lt, nat_le, ◌+◌, ◌-◌, ◌^◌, ◌<◌, ◌≤◌, Bool, true, false, cond, not, ◌||◌, is_some, List, [], ◌∷◌, ◌++◌, length, filter, Option, None, Some, IsSome, refl, sym, ap, ◌∙◌, subst, arith, true≢false}
+use Rattle.std.specs.List.{All, count_by, list_any}
 use Rattle.std.specs.Option.{option_map, is_none}
 use Rattle.std.proofs.lemmas.Bool.{eqb-true, eq-eqb, ne_eqb, and_parts, ltb-false, leb-false}
 use Rattle.std.proofs.lemmas.List.Elements.{All-nil, All-head, All-tail, All-push, All-filter, All-weaker}
@@ -20,8 +20,7 @@ use Rattle.flow_calls.specs.declared.call.Op.TheVariants as ops
 use Rattle.flow_calls.specs.declared.call.RuleLists.{RuleLists}
 use Rattle.object_ids.specs.Ids.{id_for}
 use Rattle.indirect_counters.specs.declared.shared_action.SharedAction.{SharedAction}
-use Rattle.indirect_counters.specs.Counts.{no_count}
-use Rattle.indirect_counters.specs.Entries.{Entries, entry_at, if_in_effect, in_effect_at}
+use Rattle.indirect_counters.specs.Entries.{entry_at, in_effect_at}
 use Rattle.indirect_counters.specs.Refusals as shared_calls
 use Rattle.indirect_counters.proofs.Creating.{CanAdd-clear, IsSharedOn-created, update-clear}
 use Rattle.indirect_counters.proofs.Unused.{least_unused-free}
@@ -35,9 +34,10 @@ use Rattle.port_state.specs.declared.held.Held.TheVariants as held
 use Rattle.port_state.specs.Apart.{is_rule, is_held_rule, is_held_shared, IsBelow, IsHeldBelow, IsFit, AreOthers, AreApart, IsAlone}
 use Rattle.port_state.specs.Effect.{CanHold}
 use Rattle.port_state.specs.Queue.{FlowQueue}
-use Rattle.port_state.specs.State.{State, Placed, all_held, queue_at, queue_fault, full_fault, succeeds, taken, stepped, pushed, pulled, waiting, enqueued, first_of, unless_refused, created, destroyed, flushed, isolated, shared_set, shared_gone, configured, configure_refusals, with_templates, objects, held_object, users_of, has_kind_of, is_table_rule_of, is_plain, is_in_effect, kinds_in, create_fault, queued_update_fault, templates_in, bound, bound_fault, table_rule_fault, ids_fault, creation_held, if_bound, next_state}
+use Rattle.port_state.specs.State.{State, Placed, all_held, queue_at, queue_fault, full_fault, succeeds, stepped, pushed, pulled, waiting, enqueued, first_of, unless_refused, created, destroyed, flushed, isolated, shared_set, shared_gone, configured, configure_refusals, with_templates, objects, users_of, has_kind_of, is_table_rule_of, is_plain, is_in_effect, kinds_in, create_fault, templates_in, bound, bound_fault, table_rule_fault, ids_fault, creation_held, if_bound, next_state}
 use Rattle.port_state.specs.Tables.{Templates, pattern_made, actions_made, table_made, pattern_gone, actions_gone, table_gone}
-use Rattle.port_state.proofs.Waiting.{AreBehind, tried, behind-stepped, all-stepped, count-waiting, all-waiting, count-with_queue, all-with_queue, all-at, pushed-keeps, count_by-first, count_by-last, none-held, ops_in, first_of-none, there-queue, there-full}
+use Rattle.port_state.proofs.Objects.{any-count, judged-at, judged-used, object_of}
+use Rattle.port_state.proofs.Waiting.{AreBehind, tried, behind-stepped, all-stepped, count-waiting, all-waiting, count-with_queue, all-with_queue, all-at, pushed-keeps, count_by-first, count_by-last, none-held, ops_in, first_of-none, there-queue, there-full, others-tried}
 
 abbrev pub one_if : Bool → ℕ
 one_if b = cond b 1 0
@@ -68,81 +68,19 @@ some-counted stronger test follows (x ∷ xs) any = by (stronger x) refl any (so
   by true is any others = omega (arith, count_by-first test x xs, ap one_if (follows x is))
   by false is any others = omega (arith, count_by-first test x xs, others any)
 
--- the shared actions as they are judged by: those in effect, and then those that are held
-abbrev pub judged : ℕ → Action → SharedAction
-judged users value = record { value = value; users = users; held = false; count = no_count }
-
-abbrev pub in_effect_of : (ℕ → ℕ) → ℕ × Action → ℕ × SharedAction
-in_effect_of users entry = (entry.0, judged (users entry.0) entry.1)
-
-entry_at-in_effect : (users : ℕ → ℕ) (id : ℕ) (shared : Shared) → entry_at id (map (in_effect_of users) shared) ≡ option_map (judged (users id)) (shared_at id shared)
-entry_at-in_effect users id [] = refl
-entry_at-in_effect users id (e ∷ shared) = by (nat_eq id e.0) refl (entry_at-in_effect users id shared) where
-  by : (b : Bool) → nat_eq id e.0 ≡ b → entry_at id (map (in_effect_of users) shared) ≡ option_map (judged (users id)) (shared_at id shared)
-      → cond b (Some (judged (users e.0) e.1)) (entry_at id (map (in_effect_of users) shared)) ≡ option_map (judged (users id)) (cond b (Some e.1) (shared_at id shared))
-  by true same behind = ap (λ k. Some (judged (users k) e.1)) (sym (eqb-true id e.0 same))
-  by false same behind = behind
-
-entry_at-joined : (id : ℕ) (xs ys : Entries) → entry_at id (xs ++ ys) ≡ cond (is_some (entry_at id xs)) (entry_at id xs) (entry_at id ys)
-entry_at-joined id [] ys = refl
-entry_at-joined id (e ∷ xs) ys = by (nat_eq id e.0) (entry_at-joined id xs ys) where
-  by : (b : Bool) → entry_at id (xs ++ ys) ≡ cond (is_some (entry_at id xs)) (entry_at id xs) (entry_at id ys)
-      → cond b (Some e.1) (entry_at id (xs ++ ys)) ≡ cond (is_some (cond b (Some e.1) (entry_at id xs))) (cond b (Some e.1) (entry_at id xs)) (entry_at id ys)
-  by true behind = refl
-  by false behind = behind
-
-pub entry_at-objects : (s : State) (id : ℕ)
-    → entry_at id (objects s) ≡ cond (is_some (shared_at id s.shared)) (option_map (judged (users_of s id)) (shared_at id s.shared)) (entry_at id (filter_map held_object (all_held s)))
-entry_at-objects s id =
-    entry_at-joined id (map (in_effect_of (users_of s)) s.shared) (filter_map held_object (all_held s))
-    ∙ ap (λ (o : Option SharedAction). cond (is_some o) o (entry_at id (filter_map held_object (all_held s)))) (entry_at-in_effect (users_of s) id s.shared)
-    ∙ by (shared_at id s.shared) where
-      by : (o : Option Action)
-          → cond (is_some (option_map (judged (users_of s id)) o)) (option_map (judged (users_of s id)) o) (entry_at id (filter_map held_object (all_held s)))
-          ≡ cond (is_some o) (option_map (judged (users_of s id)) o) (entry_at id (filter_map held_object (all_held s)))
-      by None = refl
-      by (Some value) = refl
-
--- those that are held aren't in effect
-if-held : (id : ℕ) (list : List Held) → if_in_effect (entry_at id (filter_map held_object list)) ≡ None
-if-held id [] = refl
-if-held id (held.RuleCreated rule table ∷ list) = if-held id list
-if-held id (held.RuleDestroyed rule ∷ list) = if-held id list
-if-held id (held.SharedCreated new value ∷ list) = by (nat_eq id new) (if-held id list) where
-  by : (b : Bool) → if_in_effect (entry_at id (filter_map held_object list)) ≡ None
-      → if_in_effect (cond b (Some (record { value = value; users = 0; held = true; count = no_count })) (entry_at id (filter_map held_object list))) ≡ None
-  by true behind = refl
-  by false behind = behind
-if-held id (held.SharedUpdated new value ∷ list) = if-held id list
-if-held id (held.SharedDestroyed new ∷ list) = if-held id list
-
-pub in_effect-objects : (s : State) (id : ℕ) → in_effect_at id (objects s) ≡ option_map (judged (users_of s id)) (shared_at id s.shared)
-in_effect-objects s id = ap if_in_effect (entry_at-objects s id) ∙ by (shared_at id s.shared) where
-  by : (o : Option Action) → if_in_effect (cond (is_some o) (option_map (judged (users_of s id)) o) (entry_at id (filter_map held_object (all_held s)))) ≡ option_map (judged (users_of s id)) o
-  by None = if-held id (all_held s)
-  by (Some value) = refl
-
-none-held-at : (id : ℕ) (list : List Held) → entry_at id (filter_map held_object list) ≡ None → count_by (is_held_shared id) list ≡ 0
-none-held-at id [] none = refl
-none-held-at id (held.RuleCreated rule table ∷ list) none = omega (arith, count_by-first (is_held_shared id) (held.RuleCreated rule table) list, none-held-at id list none)
-none-held-at id (held.RuleDestroyed rule ∷ list) none = omega (arith, count_by-first (is_held_shared id) (held.RuleDestroyed rule) list, none-held-at id list none)
-none-held-at id (held.SharedCreated new value ∷ list) none =
-    omega (arith, count_by-first (is_held_shared id) (held.SharedCreated new value) list, by (nat_eq id new) none (none-held-at id list)) where
-      by : (b : Bool) → cond b (Some (record { value = value; users = 0; held = true; count = no_count })) (entry_at id (filter_map held_object list)) ≡ None
-          → (entry_at id (filter_map held_object list) ≡ None → count_by (is_held_shared id) list ≡ 0) → cond b 1 0 + count_by (is_held_shared id) list ≡ 0
-      by true none others = cc
-      by false none others = omega (arith, others none)
-none-held-at id (held.SharedUpdated new value ∷ list) none = omega (arith, count_by-first (is_held_shared id) (held.SharedUpdated new value) list, none-held-at id list none)
-none-held-at id (held.SharedDestroyed new ∷ list) none = omega (arith, count_by-first (is_held_shared id) (held.SharedDestroyed new) list, none-held-at id list none)
+-- what is judged of shared actions
+pub in_effect-objects : (s : State) (id : ℕ) → in_effect_at id (objects s) ≡ option_map (object_of (users_of s id)) (shared_at id s.shared)
+in_effect-objects s id = judged-at (users_of s) s.shared (all_held s) id
 
 -- at a free id nothing is in effect, and no creation is held
 pub free-objects : (s : State) (id : ℕ) → entry_at id (objects s) ≡ None → (shared_at id s.shared ≡ None) × (count_by (is_held_shared id) (all_held s) ≡ 0)
-free-objects s id free = by (shared_at id s.shared) refl (sym (entry_at-objects s id) ∙ free) where
-  by : (o : Option Action) → shared_at id s.shared ≡ o
-      → cond (is_some o) (option_map (judged (users_of s id)) o) (entry_at id (filter_map held_object (all_held s))) ≡ None
-      → (shared_at id s.shared ≡ None) × (count_by (is_held_shared id) (all_held s) ≡ 0)
-  by None is none = (is, none-held-at id (all_held s) none)
-  by (Some value) is none = cc
+free-objects s id free =
+    let unused = by (shared_at id s.shared) (list_any (is_held_shared id) (all_held s)) (sym (judged-used (users_of s) s.shared (all_held s) id) ∙ ap (λ (o : Option SharedAction). is_some o) free) in
+    (unused.0, omega (arith, ltb-false 0 (count_by (is_held_shared id) (all_held s)) (any-count (is_held_shared id) (all_held s) ∙ unused.1))) where
+      by : (o : Option Action) (waits : Bool) → (is_some o || waits) ≡ false → (o ≡ None) × (waits ≡ false)
+      by None false none = (refl, refl)
+      by None true none = cc
+      by (Some value) waits none = cc
 
 -- what may go is in effect, without users
 pub record MayGo (s : State) (id : ℕ) : Type 0 where
@@ -158,7 +96,7 @@ may-go s id none = by (shared_at id s.shared) refl (sym (ap told (in_effect-obje
   of-none true is none = cc
   of-none false is none = omega (arith, ltb-false 0 (users_of s id) is)
 
-  by : (o : Option Action) → shared_at id s.shared ≡ o → told (option_map (judged (users_of s id)) o) ≡ None → MayGo s id
+  by : (o : Option Action) → shared_at id s.shared ≡ o → told (option_map (object_of (users_of s id)) o) ≡ None → MayGo s id
   by None is none = cc
   by (Some value) is none = record { there = ap (λ (o : Option Action). is_some o) is; unused = of-none (nat_lt 0 (users_of s id)) refl none }
 
@@ -169,9 +107,13 @@ kind-there value (Some old) is = refl
 
 pub update-there : (s : State) (id : ℕ) (value : Action) → shared_calls.update_fault s.rxq (objects s) id value ≡ None → is_some (shared_at id s.shared) ≡ true
 update-there s id value none = by (shared_at id s.shared) (subst IsSome (in_effect-objects s id) (update-clear s.rxq (objects s) id value none).there) where
-  by : (o : Option Action) → IsSome (option_map (judged (users_of s id)) o) → is_some o ≡ true
+  by : (o : Option Action) → IsSome (option_map (object_of (users_of s id)) o) → is_some o ≡ true
   by None there = cc
   by (Some old) there = refl
+
+pub none-is : {A : Type 0} (o : Option A) → is_none o ≡ true → o ≡ None
+none-is None is = refl
+none-is (Some x) is = cc
 
 -- the first operation stands alone where it succeeds
 pub IsAlone-first : (s : State) (op : Held) (others : List Held) → AreBehind op others (all_held s) → AreApart s → succeeds s op ≡ true → IsAlone op others
@@ -184,10 +126,7 @@ IsAlone-first s (held.SharedCreated id value) others behind apart is =
 IsAlone-first s (held.SharedUpdated id value) others behind apart is =
     omega (arith, apart.shared id, behind (is_held_shared id), ap one_if (kind-there value (shared_at id s.shared) is))
 IsAlone-first s (held.SharedDestroyed id) others behind apart is =
-    omega (arith, apart.shared id, behind (is_held_shared id), ap one_if (may-go s id (is-none (shared_calls.destroy_fault (objects s) id) is)).there) where
-      is-none : (o : Option Fault) → is_none o ≡ true → o ≡ None
-      is-none None e = refl
-      is-none (Some f) e = cc
+    omega (arith, apart.shared id, behind (is_held_shared id), ap one_if (may-go s id (none-is (shared_calls.destroy_fault (objects s) id) is)).there)
 
 -- the facts by their parts
 record Parted (rules : List Placed) (shared : Shared) (ids rxq : ℕ) (list : List Held) : Type 0 where
@@ -290,29 +229,14 @@ tried-parted s (held.SharedDestroyed new) list behind apart here below fit = by 
   by true = fewer s s.rules (without_shared new s.shared) list apart (λ q. omega arith) (λ q. found-less new q s.shared) (λ test. omega (arith, behind test)) apart.given below fit
   by false = fewer s s.rules s.shared list apart (λ q. omega arith) (λ q. omega arith) (λ test. omega (arith, behind test)) apart.given below fit
 
-ids-taken : (s : State) (op : Held) → ((taken s op).ids ≡ s.ids) × ((taken s op).rxq ≡ s.rxq)
-ids-taken s (held.RuleCreated rule table) = (refl, refl)
-ids-taken s (held.RuleDestroyed id) = (refl, refl)
-ids-taken s (held.SharedCreated id value) = (refl, refl)
-ids-taken s (held.SharedUpdated id value) = (refl, refl)
-ids-taken s (held.SharedDestroyed id) = (refl, refl)
-
-pub ids-tried : (s : State) (op : Held) → ((tried s op).ids ≡ s.ids) × ((tried s op).rxq ≡ s.rxq)
-ids-tried s op = by (succeeds s op) where
-  by : (b : Bool) → ((cond b (taken s op) s).ids ≡ s.ids) × ((cond b (taken s op) s).rxq ≡ s.rxq)
-  by true = ids-taken s op
-  by false = (refl, refl)
-
 -- an operation takes effect
 pub AreApart-stepped : (q : ℕ) (s : State) (op : Held) (ops : List Held) → (queue_at q s).held ≡ op ∷ ops → AreApart s → AreApart (stepped q s op)
 AreApart-stepped q s op ops is apart =
     let below = all-stepped (IsHeldBelow s.ids) q s op ops is apart.below in
     let fit = all-stepped (IsFit s.rxq) q s op ops is apart.fit in
-    let same = ids-tried s op in
     whole (stepped q s op)
-    (subst (λ n. Parted (tried s op).rules (tried s op).shared (tried s op).ids n (all_held (stepped q s op))) (sym same.1)
-    (subst (λ n. Parted (tried s op).rules (tried s op).shared n s.rxq (all_held (stepped q s op))) (sym same.0)
-    (tried-parted s op (all_held (stepped q s op)) (behind-stepped q s op ops is) apart below.0 below.1 fit.1)))
+    (subst (λ (t : State). Parted (tried s op).rules (tried s op).shared t.ids t.rxq (all_held (stepped q s op))) (sym (others-tried s op))
+    (tried-parted s op (all_held (stepped q s op)) (behind-stepped q s op ops is) apart below.0 below.1 fit.1))
 
 pub AreApart-pushed : (q : ℕ) (s : State) → AreApart s → AreApart (pushed q s)
 AreApart-pushed q s apart = pushed-keeps AreApart q (AreApart-stepped q) s apart
@@ -345,27 +269,25 @@ IsHeldBelow-more ids list all = All-weaker (IsHeldBelow ids) (IsHeldBelow (ids +
   weaker (held.SharedUpdated id value) below = tt
   weaker (held.SharedDestroyed id) below = tt
 
+-- at an id where none of two kinds is counted there is room for one more
+one-more : (a b : ℕ → ℕ) (new id : ℕ) (same : Bool) → (same ≡ true → new ≡ id) → a new ≡ 0 → b new ≡ 0 → a id + b id ≤ 1 → a id + b id + one_if same ≤ 1
+one-more a b new id true is none none' most = omega (arith, subst (λ k. a k ≡ 0) (is refl) none, subst (λ k. b k ≡ 0) (is refl) none')
+one-more a b new id false is none none' most = omega (arith, most)
+
+one-rule : (s : State) (new id : ℕ) → new ≡ s.ids → AreApart s → count_by (is_rule id) s.rules + count_by (is_held_rule id) (all_held s) + one_if (nat_eq new id) ≤ 1
+one-rule s new id is apart =
+    one-more (λ k. count_by (is_rule k) s.rules) (λ k. count_by (is_held_rule k) (all_held s)) s.ids id (nat_eq new id) (λ same. sym is ∙ eqb-true new id same)
+    (fresh-rules s.ids s.rules apart.given) (fresh-held s.ids (all_held s) apart.below) (apart.rules id)
+
 -- an operation that comes to wait
 pub AreApart-waiting : (q : ℕ) (op : Held) (s : State) → q < length s.queues → CanHold s op → AreApart s → AreApart (waiting q op s)
 AreApart-waiting q (held.RuleCreated rule table) s there can apart = record {
-  rules = λ id. by id (nat_eq rule.id id) refl (apart.rules id) (count-waiting (is_held_rule id) q (held.RuleCreated rule table) s there);
+  rules = λ id. omega (arith, one-rule s rule.id id can.0 apart, count-waiting (is_held_rule id) q (held.RuleCreated rule table) s there);
   shared = λ id. omega (arith, apart.shared id, count-waiting (is_held_shared id) q (held.RuleCreated rule table) s there);
   given = IsBelow-more s.ids s.rules apart.given;
   below = all-waiting (IsHeldBelow (s.ids + 1)) q (held.RuleCreated rule table) s (IsHeldBelow-more s.ids (all_held s) apart.below) (omega (arith, can.0));
   fit = all-waiting (IsFit s.rxq) q (held.RuleCreated rule table) s apart.fit tt;
-} where
-  by : (id : ℕ) (b : Bool) → nat_eq rule.id id ≡ b → count_by (is_rule id) s.rules + count_by (is_held_rule id) (all_held s) ≤ 1
-      → count_by (is_held_rule id) (all_held (waiting q (held.RuleCreated rule table) s)) ≡ count_by (is_held_rule id) (all_held s) + cond b 1 0
-      → count_by (is_rule id) s.rules + count_by (is_held_rule id) (all_held (waiting q (held.RuleCreated rule table) s)) ≤ 1
-  by id true is most more =
-      let same : s.ids ≡ id = sym can.0 ∙ eqb-true rule.id id is in
-      omega (
-        arith,
-        more,
-        subst (λ k. count_by (is_rule k) s.rules ≡ 0) same (fresh-rules s.ids s.rules apart.given),
-        subst (λ k. count_by (is_held_rule k) (all_held s) ≡ 0) same (fresh-held s.ids (all_held s) apart.below),
-      )
-  by id false is most more = omega (arith, most, more)
+}
 AreApart-waiting q (held.RuleDestroyed rule) s there can apart = record {
   rules = λ id. omega (arith, apart.rules id, count-waiting (is_held_rule id) q (held.RuleDestroyed rule) s there);
   shared = λ id. omega (arith, apart.shared id, count-waiting (is_held_shared id) q (held.RuleDestroyed rule) s there);
@@ -375,24 +297,16 @@ AreApart-waiting q (held.RuleDestroyed rule) s there can apart = record {
 }
 AreApart-waiting q (held.SharedCreated new value) s there can apart = record {
   rules = λ id. omega (arith, apart.rules id, count-waiting (is_held_rule id) q (held.SharedCreated new value) s there);
-  shared = λ id. by id (nat_eq id new) refl (apart.shared id) (count-waiting (is_held_shared id) q (held.SharedCreated new value) s there);
+  shared = λ id. omega (arith, room id, count-waiting (is_held_shared id) q (held.SharedCreated new value) s there);
   given = apart.given;
   below = all-waiting (IsHeldBelow s.ids) q (held.SharedCreated new value) s apart.below tt;
   fit = all-waiting (IsFit s.rxq) q (held.SharedCreated new value) s apart.fit can.1;
 } where
-  by : (id : ℕ) (b : Bool) → nat_eq id new ≡ b → cond (is_some (shared_at id s.shared)) 1 0 + count_by (is_held_shared id) (all_held s) ≤ 1
-      → count_by (is_held_shared id) (all_held (waiting q (held.SharedCreated new value) s)) ≡ count_by (is_held_shared id) (all_held s) + cond b 1 0
-      → cond (is_some (shared_at id s.shared)) 1 0 + count_by (is_held_shared id) (all_held (waiting q (held.SharedCreated new value) s)) ≤ 1
-  by id true is most more =
-      let same : new ≡ id = sym (eqb-true id new is) in
+  room : (id : ℕ) → cond (is_some (shared_at id s.shared)) 1 0 + count_by (is_held_shared id) (all_held s) + one_if (nat_eq id new) ≤ 1
+  room id =
       let free = free-objects s new can.0.free in
-      omega (
-        arith,
-        more,
-        subst (λ k. one_of (shared_at k s.shared) ≡ 0) same (ap one_of free.0),
-        subst (λ k. count_by (is_held_shared k) (all_held s) ≡ 0) same free.1,
-      )
-  by id false is most more = omega (arith, most, more)
+      one-more (λ k. one_of (shared_at k s.shared)) (λ k. count_by (is_held_shared k) (all_held s)) new id (nat_eq id new) (λ same. sym (eqb-true id new same))
+      (ap one_of free.0) free.1 (apart.shared id)
 AreApart-waiting q (held.SharedUpdated new value) s there can apart = record {
   rules = λ id. omega (arith, apart.rules id, count-waiting (is_held_rule id) q (held.SharedUpdated new value) s there);
   shared = λ id. omega (arith, apart.shared id, count-waiting (is_held_shared id) q (held.SharedUpdated new value) s there);
@@ -430,24 +344,12 @@ AreApart-configured queues size s apart =
 -- a rule takes effect with the next id
 pub AreApart-created : (rule : RuleView) (s : State) → rule.id ≡ s.ids → AreApart s → AreApart (created rule s)
 AreApart-created rule s is apart = record {
-  rules = λ id. by id (nat_eq rule.id id) refl (apart.rules id) (count_by-last (is_rule id) s.rules (record { rule = rule; table = None }));
+  rules = λ id. omega (arith, one-rule s rule.id id is apart, count_by-last (is_rule id) s.rules (record { rule = rule; table = None }));
   shared = apart.shared;
   given = All-push (IsBelow (s.ids + 1)) s.rules (record { rule = rule; table = None }) (IsBelow-more s.ids s.rules apart.given) (omega (arith, is));
   below = IsHeldBelow-more s.ids (all_held s) apart.below;
   fit = apart.fit;
-} where
-  by : (id : ℕ) (b : Bool) → nat_eq rule.id id ≡ b → count_by (is_rule id) s.rules + count_by (is_held_rule id) (all_held s) ≤ 1
-      → count_by (is_rule id) (s.rules ++ record { rule = rule; table = None } ∷ []) ≡ count_by (is_rule id) s.rules + cond b 1 0
-      → count_by (is_rule id) (s.rules ++ record { rule = rule; table = None } ∷ []) + count_by (is_held_rule id) (all_held s) ≤ 1
-  by id true eq most more =
-      let same : s.ids ≡ id = sym is ∙ eqb-true rule.id id eq in
-      omega (
-        arith,
-        more,
-        subst (λ k. count_by (is_rule k) s.rules ≡ 0) same (fresh-rules s.ids s.rules apart.given),
-        subst (λ k. count_by (is_held_rule k) (all_held s) ≡ 0) same (fresh-held s.ids (all_held s) apart.below),
-      )
-  by id false eq most more = omega (arith, most, more)
+}
 
 -- rules go
 pub AreApart-destroyed : (id : ℕ) (s : State) → AreApart s → AreApart (destroyed id s)
@@ -583,8 +485,8 @@ AreApart-next limits s (ops.QueueIndirectCreate q postpone id attr action) a =
     (λ none. let parts = first_of-none (full_fault s q) (shared_calls.create_fault s.rxq (objects s) id attr action) none in
     AreApart-enqueued q postpone op s (there-full s q parts.0) (CanHold-shared s id attr action parts.1) a) a
 AreApart-next limits s (ops.QueueIndirectUpdate q postpone id action) a =
-    unless-keeps AreApart (first_of (full_fault s q) (queued_update_fault s.rxq action)) (enqueued q postpone (held.SharedUpdated id action) s) s
-    (λ none. let parts = first_of-none (full_fault s q) (queued_update_fault s.rxq action) none in
+    unless-keeps AreApart (first_of (full_fault s q) (shared_calls.queued_update_fault s.rxq action)) (enqueued q postpone (held.SharedUpdated id action) s) s
+    (λ none. let parts = first_of-none (full_fault s q) (shared_calls.queued_update_fault s.rxq action) none in
     AreApart-enqueued q postpone (held.SharedUpdated id action) s (there-full s q parts.0) parts.1 a) a
 AreApart-next limits s (ops.QueueIndirectDestroy q postpone id) a =
     unless-keeps AreApart (full_fault s q) (enqueued q postpone (held.SharedDestroyed id) s) s

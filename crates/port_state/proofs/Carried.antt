@@ -65,11 +65,12 @@ carried-rules s old same list isolated rxq ids by_rule =
     carried (state_kept s) old same list s.shared.entries isolated rxq ids by_rule (λ q. same_shared (in_effect_at q s.shared.entries))
 
 -- or no rule does
-pub carried-shared : (s : Inside) (old : KeptState) → state_kept s ≡ old → (shared : Entries) (isolated : Bool) (rxq : ℕ) → IsDistinct nat_eq (keys_of shared)
-    → ((q : ℕ) → CarriesShared (in_effect_at q s.shared.entries) (in_effect_at q shared)) → (c : Counter) → count_kept s.rules.list shared c
-    ≡ while_there (is_there c (record { rules = map rule_in (map placed s.rules.list); shared = values_in_effect shared; isolated = isolated; rxq = rxq })) (count_in old c)
-carried-shared s old same shared isolated rxq ids by_shared =
-    carried (state_kept s) old same s.rules.list shared isolated rxq ids (λ q. same_rule (rules.entry_at q s.rules.list)) by_shared
+pub carried-shared : (s : Inside) (old : KeptState) (new entries : Entries) → state_kept s ≡ old → new ≡ entries → IsDistinct nat_eq (keys_of new)
+    → ((q : ℕ) → CarriesShared (in_effect_at q s.shared.entries) (in_effect_at q entries)) → (c : Counter) → count_kept s.rules.list new c
+    ≡ while_there (is_there c (record { rules = map rule_in (map placed s.rules.list); shared = values_in_effect new; isolated = s.isolated; rxq = s.rxq })) (count_in old c)
+carried-shared s old new entries same is ids by_shared =
+    carried (state_kept s) old same s.rules.list new s.isolated s.rxq ids (λ q. same_rule (rules.entry_at q s.rules.list))
+    (λ q. subst (λ (es : Entries). CarriesShared (in_effect_at q s.shared.entries) (in_effect_at q es)) (sym is) (by_shared q))
 
 -- a rule that takes effect behind the others
 entry_at-pushed_rule : (q : ℕ) (list : List InEffect) (entry : InEffect)

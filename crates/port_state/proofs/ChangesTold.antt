@@ -39,7 +39,7 @@ use Rattle.port_state.specs.declared.held.Held.{Held}
 use Rattle.port_state.specs.declared.held.Held.TheVariants as held
 use Rattle.port_state.specs.Apart.{is_rule, is_held_rule, IsFit}
 use Rattle.port_state.specs.Changes.{HasFewActions, AreTold, change_unless_refused, unless_refused_changes, changes_at, changes_stepped, changes_pushed, changes_enqueued, changes_by, changes_in, changes_behind, changes_of, flows_at}
-use Rattle.port_state.specs.State.{State, Placed, opening, flows_of, rule_in, kinds_in, objects, all_held, queue_at, stepped, waiting, is_plain, is_user, is_in_effect, is_table_rule_of, has_kind_of, create_fault, room_fault, first_of, full_fault, queue_fault, queued_update_fault, table_rule_fault, bound, if_bound, creation_held, state_of, state_behind}
+use Rattle.port_state.specs.State.{State, Placed, opening, flows_of, rule_in, kinds_in, objects, all_held, queue_at, stepped, waiting, is_plain, is_user, is_in_effect, is_table_rule_of, has_kind_of, create_fault, room_fault, first_of, full_fault, queue_fault, table_rule_fault, bound, if_bound, creation_held, state_of, state_behind}
 use Rattle.port_state.proofs.ApartKept.{CanHold-shared, may-go, one_if}
 use Rattle.port_state.proofs.FlowsBehind.{are_its_changes, flows-stepped, flows-waiting}
 use Rattle.port_state.proofs.StateKept.{IsUnder, IsUnder-behind, IsUnder-opening, IsUnder-stepped, IsUnder-waiting, IsUnder-bound_waiting, IsFresh-apart, MayFollow, place-none, rule_at-none, all-fail, kind-created, kind-updated, kind-new, kind-update, IsSharedOn-queued}
@@ -298,8 +298,8 @@ lawful-call limits s (ops.QueueIndirectCreate q postpone id attr action) ranges 
     lawful-enqueued limits q postpone op s ranges (IsUnder-waiting limits q op s (there-full s q parts.0) (CanHold-shared s id attr action parts.1) tt (λ _. tt) under) may some) few
 lawful-call limits s (ops.QueueIndirectUpdate q postpone id action) ranges under may few =
     let op = held.SharedUpdated id action in
-    lawful-unless limits.rxq (flows_of s) (first_of (full_fault s q) (queued_update_fault s.rxq action)) (changes_enqueued q postpone op s)
-    (λ none some. let parts = first_of-none (full_fault s q) (queued_update_fault s.rxq action) none in
+    lawful-unless limits.rxq (flows_of s) (first_of (full_fault s q) (shared_calls.queued_update_fault s.rxq action)) (changes_enqueued q postpone op s)
+    (λ none some. let parts = first_of-none (full_fault s q) (shared_calls.queued_update_fault s.rxq action) none in
     lawful-enqueued limits q postpone op s ranges (IsUnder-waiting limits q op s (there-full s q parts.0) parts.1 tt (λ _. tt) under) may some) few
 lawful-call limits s (ops.QueueIndirectDestroy q postpone id) ranges under may few =
     let op = held.SharedDestroyed id in

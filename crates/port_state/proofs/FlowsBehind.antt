@@ -20,7 +20,7 @@ use Rattle.template_tables.specs.Refusals.{pattern_refusals, actions_refusals, t
 use Rattle.port_state.specs.declared.held.Held.{Held}
 use Rattle.port_state.specs.declared.held.Held.TheVariants as held
 use Rattle.port_state.specs.Changes.{change_unless_refused, unless_refused_changes, AreItsChanges, change_of, changes_at, changes_stepped, changes_pushed, changes_enqueued}
-use Rattle.port_state.specs.State.{State, Placed, queue_at, queue_fault, full_fault, succeeds, taken, stepped, pushed, pulled, waiting, enqueued, configured, configure_refusals, objects, shared_set, shared_gone, flows_of, rule_in, created, destroyed, is_in_effect, create_fault, first_of, unless_refused, templates_in, with_templates, queued_update_fault, bound, table_rule_fault, if_bound, creation_held}
+use Rattle.port_state.specs.State.{State, Placed, queue_at, queue_fault, full_fault, succeeds, taken, stepped, pushed, pulled, waiting, enqueued, configured, configure_refusals, objects, shared_set, shared_gone, flows_of, rule_in, created, destroyed, is_in_effect, create_fault, first_of, unless_refused, templates_in, with_templates, bound, table_rule_fault, if_bound, creation_held}
 use Rattle.port_state.specs.Tables.{Templates, pattern_made, actions_made, table_made, pattern_gone, actions_gone, table_gone}
 
 -- without a rule, by its own id or by that of what is in effect
@@ -143,7 +143,7 @@ are_its_changes limits s (ops.QueueIndirectCreate q postpone id attr action) =
     flows-unless (first_of (full_fault s q) (shared_calls.create_fault s.rxq (objects s) id attr action)) (enqueued q postpone op s) s (changes_enqueued q postpone op s) (flows-enqueued q postpone op s)
 are_its_changes limits s (ops.QueueIndirectUpdate q postpone id action) =
     let op = held.SharedUpdated id action in
-    flows-unless (first_of (full_fault s q) (queued_update_fault s.rxq action)) (enqueued q postpone op s) s (changes_enqueued q postpone op s) (flows-enqueued q postpone op s)
+    flows-unless (first_of (full_fault s q) (shared_calls.queued_update_fault s.rxq action)) (enqueued q postpone op s) s (changes_enqueued q postpone op s) (flows-enqueued q postpone op s)
 are_its_changes limits s (ops.QueueIndirectDestroy q postpone id) =
     flows-unless (full_fault s q) (enqueued q postpone (held.SharedDestroyed id) s) s (changes_enqueued q postpone (held.SharedDestroyed id) s) (flows-enqueued q postpone (held.SharedDestroyed id) s)
 are_its_changes limits s (ops.Push q) = flows-unless (queue_fault s q) (pushed q s) s (changes_pushed q s) (flows-pushed q s)

@@ -19,8 +19,9 @@ use Rattle.port_state.specs.Apart.{is_held_shared, is_shared_creation}
 use Rattle.port_state.specs.Kept.{is_held_in, is_reserved, IsGiven, IsReserved, IsReservedFor, HasReserved, IsHeldIn, AreKeptFor}
 use Rattle.port_state.specs.State.{Placed}
 use Rattle.port_state.specs.StateInside.{HasSettled, HaveSettled, IsSettled, IsSettledAt, IsSettledIn}
-use Rattle.port_state.proofs.Settling.{count-cons, later, given-later}
+use Rattle.port_state.proofs.Settling.{later, given-later}
 use Rattle.port_state.proofs.Slots.{have-with, table_of-with, lookup-last, lookup-pushed, none-above}
+use Rattle.port_state.proofs.Waiting.{count_by-first}
 
 -- the order doesn't matter
 pub kept-same : (ids : ℕ) (t : TemplatesView) (shared : Entries) (ops ops' : List Held) → ((test : Held → Bool) → count_by test ops' ≡ count_by test ops)
@@ -46,7 +47,7 @@ TakesNothing (held.SharedDestroyed id) = Unit {0}
 -- it counts for nothing that is kept, whether it is held or not
 module _ (op : Held) (nothing : (test : Held → Bool) → (q : ℕ) → (is_held_in q op ≡ false) × (is_held_shared q op ≡ false) × (is_shared_creation op ≡ false)) where
   same : (test : Held → Bool) (ops : List Held) → test op ≡ false → count_by test (op ∷ ops) ≡ count_by test ops
-  same test ops is = omega (arith, count-cons test op ops, ap {B = ℕ} (λ b. cond b 1 0) is)
+  same test ops is = omega (arith, count_by-first test op ops, ap {B = ℕ} (λ b. cond b 1 0) is)
 
   pub kept-with : (ids : ℕ) (t : TemplatesView) (shared : Entries) (ops : List Held) → IsHeldIn t shared op → AreKeptFor ids t shared ops → AreKeptFor ids t shared (op ∷ ops)
   kept-with ids t shared ops here kept = record {
@@ -100,11 +101,11 @@ module _ (ids table : ℕ) (t : TemplatesView) (at : TableView) (is : table_of t
   reserved-kept rule shared ops own kept = record {
     tables = have-with table (reserved ids) t (HasReserved (ids + 1) (held.RuleCreated rule table ∷ ops)) others here;
     each = All-cons (IsHeldIn (with_table table (reserved ids) t) shared) (held.RuleCreated rule table) ops found (each ops kept.each);
-    used = λ q. kept.used q ∙ ap (λ n. is_some (shared_at q (values_in_effect shared)) || nat_lt 0 n) (sym (omega (arith, count-cons (is_held_shared q) (held.RuleCreated rule table) ops)));
-    number = omega (arith, kept.number, count-cons is_shared_creation (held.RuleCreated rule table) ops);
+    used = λ q. kept.used q ∙ ap (λ n. is_some (shared_at q (values_in_effect shared)) || nat_lt 0 n) (sym (omega (arith, count_by-first (is_held_shared q) (held.RuleCreated rule table) ops)));
+    number = omega (arith, kept.number, count_by-first is_shared_creation (held.RuleCreated rule table) ops);
   } where
     split : (q : ℕ) → count_by (is_held_in q) (held.RuleCreated rule table ∷ ops) ≡ cond (nat_eq q table) 1 0 + count_by (is_held_in q) ops
-    split q = count-cons (is_held_in q) (held.RuleCreated rule table) ops
+    split q = count_by-first (is_held_in q) (held.RuleCreated rule table) ops
 
     before : IsReservedFor ids table ops at
     before = subst (HasReserved ids ops table) is (kept.tables table)

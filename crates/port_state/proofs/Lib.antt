@@ -16,6 +16,7 @@ pub mod Rises
 pub mod RuleHeld
 pub mod RulesKept
 pub mod Settling
+pub mod SharedChanged
 pub mod SharedHeld
 pub mod Slots
 pub mod StateKept

@@ -79,22 +79,26 @@ any-queue p (q ∷ queues) =
 
 -- ---- what is judged
 
--- a creation that is held isn't in effect
-held-unseen : (q : ℕ) (ops : List Held) → in_effect_at q (filter_map held_object ops) ≡ None
-held-unseen q [] = refl
-held-unseen q (held.RuleCreated rule table ∷ ops) = held-unseen q ops
-held-unseen q (held.RuleDestroyed id ∷ ops) = held-unseen q ops
-held-unseen q (held.SharedUpdated id value ∷ ops) = held-unseen q ops
-held-unseen q (held.SharedDestroyed id ∷ ops) = held-unseen q ops
-held-unseen q (held.SharedCreated id value ∷ ops) = by (nat_eq q id) (held-unseen q ops) where
-  by : (b : Bool) → in_effect_at q (filter_map held_object ops) ≡ None
-      → if_in_effect (cond b (Some (record { value = value; users = 0; held = true; count = no_count })) (entry_at q (filter_map held_object ops))) ≡ None
-  by true behind = refl
+-- at the id of a creation that is held nothing is in effect, and the id is in use
+held-at : (q : ℕ) (ops : List Held) → (in_effect_at q (filter_map held_object ops) ≡ None) × (is_used q (filter_map held_object ops) ≡ list_any (is_held_shared q) ops)
+held-at q [] = (refl, refl)
+held-at q (held.RuleCreated rule table ∷ ops) = held-at q ops
+held-at q (held.RuleDestroyed id ∷ ops) = held-at q ops
+held-at q (held.SharedUpdated id value ∷ ops) = held-at q ops
+held-at q (held.SharedDestroyed id ∷ ops) = held-at q ops
+held-at q (held.SharedCreated id value ∷ ops) = by (nat_eq q id) (held-at q ops) where
+  entry : Option SharedAction
+  entry = Some (record { value = value; users = 0; held = true; count = no_count })
+
+  by : (b : Bool) → (in_effect_at q (filter_map held_object ops) ≡ None) × (is_used q (filter_map held_object ops) ≡ list_any (is_held_shared q) ops)
+      → (if_in_effect (cond b entry (entry_at q (filter_map held_object ops))) ≡ None)
+      × (is_some (cond b entry (entry_at q (filter_map held_object ops))) ≡ (b || list_any (is_held_shared q) ops))
+  by true behind = (refl, refl)
   by false behind = behind
 
 -- what is judged at an id is what is in effect there
 pub judged-at : (users : ℕ → ℕ) (values : Shared) (ops : List Held) (q : ℕ) → in_effect_at q (judged users values ops) ≡ option_map (object_of (users q)) (shared_at q values)
-judged-at users [] ops q = held-unseen q ops
+judged-at users [] ops q = (held-at q ops).0
 judged-at users (v ∷ values) ops q = by (nat_eq q v.0) refl (judged-at users values ops q) where
   by : (b : Bool) → nat_eq q v.0 ≡ b → in_effect_at q (judged users values ops) ≡ option_map (object_of (users q)) (shared_at q values)
       → if_in_effect (cond b (Some (object_of (users v.0) v.1)) (entry_at q (judged users values ops))) ≡ option_map (object_of (users q)) (cond b (Some v.1) (shared_at q values))
@@ -109,20 +113,8 @@ pub judged-value : (users : ℕ → ℕ) (values : Shared) (ops : List Held) (q 
 judged-value users values ops q = ap (option_map (λ (e : SharedAction). e.value)) (judged-at users values ops q) ∙ value-object (users q) (shared_at q values)
 
 -- its id is in use
-used-held : (q : ℕ) (ops : List Held) → is_used q (filter_map held_object ops) ≡ list_any (is_held_shared q) ops
-used-held q [] = refl
-used-held q (held.RuleCreated rule table ∷ ops) = used-held q ops
-used-held q (held.RuleDestroyed id ∷ ops) = used-held q ops
-used-held q (held.SharedUpdated id value ∷ ops) = used-held q ops
-used-held q (held.SharedDestroyed id ∷ ops) = used-held q ops
-used-held q (held.SharedCreated id value ∷ ops) = by (nat_eq q id) (used-held q ops) where
-  by : (b : Bool) → is_used q (filter_map held_object ops) ≡ list_any (is_held_shared q) ops
-      → is_some (cond b (Some (record { value = value; users = 0; held = true; count = no_count })) (entry_at q (filter_map held_object ops))) ≡ (b || list_any (is_held_shared q) ops)
-  by true behind = refl
-  by false behind = behind
-
-judged-used : (users : ℕ → ℕ) (values : Shared) (ops : List Held) (q : ℕ) → is_used q (judged users values ops) ≡ (is_some (shared_at q values) || list_any (is_held_shared q) ops)
-judged-used users [] ops q = used-held q ops
+pub judged-used : (users : ℕ → ℕ) (values : Shared) (ops : List Held) (q : ℕ) → is_used q (judged users values ops) ≡ (is_some (shared_at q values) || list_any (is_held_shared q) ops)
+judged-used users [] ops q = (held-at q ops).1
 judged-used users (v ∷ values) ops q = by (nat_eq q v.0) (judged-used users values ops q) where
   by : (b : Bool) → is_used q (judged users values ops) ≡ (is_some (shared_at q values) || list_any (is_held_shared q) ops)
       → is_some (cond b (Some (object_of (users v.0) v.1)) (entry_at q (judged users values ops))) ≡ (is_some (cond b (Some v.1) (shared_at q values)) || list_any (is_held_shared q) ops)

@@ -2,6 +2,7 @@
 use Rattle.std.proofs.Common.{◌≡◌, ℕ, Bool, true, false, cond, nat_eq, map, List, [], ◌∷◌, Option, None, Some, refl, sym, ap, ◌∙◌, subst}
 use Rattle.std.specs.List.{IsDistinct}
 use Rattle.std.specs.Map.{keys_of, lookup, set_value}
+use Rattle.std.proofs.lemmas.Option.{same_Some}
 use Rattle.template_tables.specs.TableView.{TableView}
 use Rattle.template_tables.specs.TemplatesView.{TemplatesView, table_of, changed_if, with_table}
 use Rattle.port_state.specs.Tables.{Table}
@@ -15,12 +16,9 @@ written : (id : ℕ) (tables : List (ℕ × TableView)) (old new : TableView) �
     → map plan_of (set_value (nat_eq id) tables new) ≡ map plan_of tables
 written id [] old new found same = refl
 written id (e ∷ tables) old new found same = by (nat_eq id e.0) found (λ at. written id tables old new at same) where
-  some-is : {A : Type 0} {a b : A} → Some a ≡ Some b → a ≡ b
-  some-is same' = cc
-
   by : (b : Bool) → cond b (Some e.1) (lookup (nat_eq id) tables) ≡ Some old → (lookup (nat_eq id) tables ≡ Some old → map plan_of (set_value (nat_eq id) tables new) ≡ map plan_of tables)
       → map plan_of (cond b ((e.0, new) ∷ tables) (e ∷ set_value (nat_eq id) tables new)) ≡ plan_of e ∷ map plan_of tables
-  by true at more = ap (λ p. p ∷ map plan_of tables) (same e.0 ∙ ap (λ (v : TableView). plan_of (e.0, v)) (sym (some-is at)))
+  by true at more = ap (λ p. p ∷ map plan_of tables) (same e.0 ∙ ap (λ (v : TableView). plan_of (e.0, v)) (sym (same_Some _ _ at)))
   by false at more = ap (λ ps. plan_of e ∷ ps) (more at)
 
 pub plans-with : (id : ℕ) (change : TableView → TableView) (t : TemplatesView) → IsOfSlots change → plans_of (with_table id change t) ≡ plans_of t

@@ -13,9 +13,9 @@ use Rattle.port_state.specs.Counters.{carried, is_there, while_there}
 use Rattle.port_state.specs.Kept.{AreKept}
 use Rattle.port_state.specs.KeptState.{KeptState, count_in, state_in}
 use Rattle.port_state.specs.State.{State, flows_of, pushed, queue_at, stepped}
-use Rattle.port_state.proofs.ApartKept.{AreApart-stepped, ids-tried}
+use Rattle.port_state.proofs.ApartKept.{AreApart-stepped}
 use Rattle.port_state.proofs.FlowsBehind.{flows-stepped}
-use Rattle.port_state.proofs.Waiting.{many-stepped, rest-stepped}
+use Rattle.port_state.proofs.Waiting.{many-stepped, others-tried, rest-stepped}
 
 pub record Goes (q : ℕ) (old k : KeptState) (before list : List Change) : Type 0 where
   pub state : pushed q (state_in k) ≡ pushed q (state_in old)
@@ -80,7 +80,7 @@ pushes-on : (q left room more rxq : ℕ) (k new : KeptState) (op : Held) (ops : 
 pushes-on q left room more rxq k new op ops is state kept there there' p = record {
   many = omega (arith, p.many, ap {B = ℕ} (λ (list : List Held). length list) is, ap {B = ℕ} (λ (s : State). length (queue_at q s).held) state, ap {B = ℕ} (λ (list : List Held). length list) (rest-stepped q (state_in k) op ops is));
   there = omega (arith, p.there, ap {B = ℕ} (λ (s : State). length s.queues) state, many-stepped q (state_in k) op);
-  port = p.port ∙ sym (ap (λ (s : State). s.rxq) state ∙ (ids-tried (state_in k) op).1);
+  port = p.port ∙ sym (ap (λ (s : State). s.rxq) state ∙ ap (λ (t : State). t.rxq) (others-tried (state_in k) op));
   kept = kept;
   apart = subst AreApart (sym state) (AreApart-stepped q (state_in k) op ops is p.apart);
   rules_room = omega (arith, p.rules_room, there);

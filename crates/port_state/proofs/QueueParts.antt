@@ -9,7 +9,6 @@ use Rattle.std.proofs.lemmas.List.{map-set, length-map}
 use Rattle.std.proofs.lemmas.List.Elements.{All-set, All-head, All-tail, All-get_or}
 use Rattle.op_queues.specs.OpQueue.{Queue}
 use Rattle.op_queues.specs.OpQueue as op_queues
-use Rattle.port_state.specs.declared.held.Held.TheVariants as held
 use Rattle.indirect_counters.specs.Entries.{Entries}
 use Rattle.template_tables.specs.TemplatesView.{TemplatesView}
 use Rattle.port_state.specs.declared.held.Held.{Held}
@@ -20,9 +19,8 @@ use Rattle.port_state.specs.Queue.{FlowQueue, empty_queue, in_flight}
 use Rattle.port_state.specs.State.{State, admitted, all_held, full_fault, queue_at, queue_fault, waiting, with_queue}
 use Rattle.port_state.specs.StateInside.{state_kept, IsQueue, queue_of}
 use Rattle.port_state.proofs.Holding.{kept-same}
-use Rattle.port_state.proofs.QueuesRead.{queue-at}
-use Rattle.port_state.proofs.Settling.{count-cons}
-use Rattle.port_state.proofs.Waiting.{all-at, all-waiting, all-with_queue, count-waiting, count-with_queue, first_of-none, queues-admitted}
+use Rattle.port_state.proofs.QueuesRead.{flight-is, queue-at}
+use Rattle.port_state.proofs.Waiting.{all-at, all-waiting, all-with_queue, count-waiting, count-with_queue, first_of-none, others-admitted, queues-admitted, count_by-first}
 
 -- one queue is written
 pub queues-set : (items : List (Queue Held)) (q : ℕ) (queue : Queue Held) → map queue_of (slice_set items q queue) ≡ slice_set (map queue_of items) q (queue_of queue)
@@ -59,7 +57,7 @@ pub kept-waiting : (ids : ℕ) (t : TemplatesView) (shared : Entries) (q : ℕ) 
     → AreKeptFor ids t shared (op ∷ all_held s) → AreKeptFor ids t shared (all_held (waiting q op s))
 kept-waiting ids t shared q op s there kept =
     kept-same ids t shared (op ∷ all_held s) (all_held (waiting q op s))
-    (λ test. omega (arith, count-waiting test q op s there, count-cons test op (all_held s)))
+    (λ test. omega (arith, count-waiting test q op s there, count_by-first test op (all_held s)))
     (λ P all. all-waiting P q op s (All-tail P op (all_held s) all) (All-head P op (all_held s) all)) kept
 
 -- a queue that isn't full takes one more
@@ -70,19 +68,12 @@ not-full s q none full = clear (nat_eq (in_flight (queue_at q s)) s.queue_size) 
       clear true is none' = cc
       clear false is none' = true≢false (sym is)
 
-flight-is : (d : Queue Held) → d.owed ≡ 0 → op_queues.in_flight d ≡ in_flight (queue_of d)
-flight-is d none = omega (arith, none)
-
 pub takes-more : (s : State) (q size : ℕ) (d : Queue Held) → full_fault s q ≡ None → queue_at q s ≡ queue_of d → IsQueue size d → size ≡ s.queue_size → op_queues.in_flight d ≡ d.size → ⊥
 takes-more s q size d none is sound same full =
     not-full s q none (ap in_flight is ∙ sym (flight-is d sound.none_owed) ∙ full ∙ sound.size_is ∙ same)
 
 pub size-admitted : (op : Held) (s : State) → (admitted op s).queue_size ≡ s.queue_size
-size-admitted (held.RuleCreated rule table) s = refl
-size-admitted (held.RuleDestroyed id) s = refl
-size-admitted (held.SharedCreated id value) s = refl
-size-admitted (held.SharedUpdated id value) s = refl
-size-admitted (held.SharedDestroyed id) s = refl
+size-admitted op s = ap (λ (t : State). t.queue_size) (others-admitted op s)
 
 pub at-admitted : (op : Held) (s : State) (q : ℕ) → queue_at q (admitted op s) ≡ queue_at q s
 at-admitted op s q = ap (λ (qs : List FlowQueue). get_or qs q empty_queue) (queues-admitted op s)

@@ -1,11 +1,11 @@
 -- What the code keeps for tables and for held operations, as rules of tables come and go.
-use Rattle.std.proofs.Common.{◌≡◌, ℕ, ◌+◌, ◌++◌, ◌<◌, not, Bool, true, false, cond, nat_eq, map, length, is_some, List, [], ◌∷◌, Option, None, Some, refl, sym, ap, ◌∙◌, subst, arith, zero-add, drop, slice_get}
+use Rattle.std.proofs.Common.{◌≡◌, ℕ, ◌+◌, ◌++◌, ◌<◌, not, Bool, true, false, cond, nat_eq, map, length, is_some, List, [], ◌∷◌, Option, None, Some, refl, sym, ap, ◌∙◌, subst, arith, drop, slice_get}
 use Rattle.std.specs.List.{All, IsDistinct, count_by}
 use Rattle.std.specs.Map.{keys_of, lookup, remove_entry}
 use Rattle.std.specs.Option.{option_map}
 use Rattle.std.proofs.lemmas.Bool.{eqb-true, eq-eqb}
-use Rattle.std.proofs.lemmas.List.Sums.{sum_by-cons, sum_by-append}
 use Rattle.std.proofs.lemmas.List.Elements.{All-nil, All-cons, All-head, All-tail}
+use Rattle.std.proofs.lemmas.Option.{same_Some}
 use Rattle.flow_rules.specs.RuleView.{RuleView}
 use Rattle.flow_rules.specs.Changes.{has_id}
 use Rattle.flow_rules.specs.Naming.{rule_at}
@@ -27,21 +27,15 @@ use Rattle.port_state.specs.State.{Placed, rule_in, stands_in, is_table}
 use Rattle.port_state.specs.Freed.{freed_all, freed_by}
 use Rattle.port_state.proofs.Plans.{plans-with, tables-with}
 use Rattle.port_state.specs.StateInside.{HasSettled, HaveSettled, IsSettled, IsSettledAt, IsSettledIn}
+use Rattle.port_state.proofs.Waiting.{count_by-first, count_by-last}
 use Rattle.port_state.proofs.Slots.{have-with, table_of-with, settling, freeing, freed-others, freed-given, freed-greatest, lookup-others, All-keys-written}
-
--- counted with one more, behind or in front
-count_by-push : {A : Type 0} (test : A → Bool) (xs : List A) (x : A) → count_by test (xs ++ x ∷ []) ≡ count_by test xs + cond (test x) 1 0
-count_by-push test xs x = sum_by-append (λ y. cond (test y) 1 0) xs (x ∷ []) ∙ ap (λ n. count_by test xs + n) (zero-add (cond (test x) 1 0))
-
-pub count-cons : {A : Type 0} (test : A → Bool) (x : A) (xs : List A) → count_by test (x ∷ xs) ≡ cond (test x) 1 0 + count_by test xs
-count-cons test x xs = sum_by-cons (λ y. cond (test y) 1 0) x xs
 
 -- where none is counted, none is the first, and none of the others is counted
 pub none-first : {A : Type 0} (test : A → Bool) (x : A) (xs : List A) → count_by test (x ∷ xs) ≡ 0 → (test x ≡ false) × (count_by test xs ≡ 0)
 none-first test x xs none = by (test x) refl where
   by : (b : Bool) → test x ≡ b → (test x ≡ false) × (count_by test xs ≡ 0)
-  by true is = absurd (omega (arith, count-cons test x xs, ap {B = ℕ} (λ b. cond b 1 0) is, none))
-  by false is = (is, omega (arith, count-cons test x xs, ap {B = ℕ} (λ b. cond b 1 0) is, none))
+  by true is = absurd (omega (arith, count_by-first test x xs, ap {B = ℕ} (λ b. cond b 1 0) is, none))
+  by false is = (is, omega (arith, count_by-first test x xs, ap {B = ℕ} (λ b. cond b 1 0) is, none))
 
 -- no rule in effect has an id that isn't found
 pub others-fresh : (id : ℕ) (rules : List Placed) → rule_at id (map rule_in rules) ≡ None → All (λ (r : Placed). nat_eq r.rule.id id ≡ false) rules
@@ -125,7 +119,7 @@ module _ (rule : RuleView) (table : ℕ) (t : TemplatesView) (at : TableView) (i
     others : (q : ℕ) → nat_eq q table ≡ false → HasSettled (rules ++ record { rule = rule; table = Some table } ∷ []) q (table_of q t)
     others q other = by (table_of q t) (have q) where
       more : count_by (stands_in q) (rules ++ record { rule = rule; table = Some table } ∷ []) ≡ count_by (stands_in q) rules
-      more = omega (arith, count_by-push (stands_in q) rules (record { rule = rule; table = Some table }), ap {B = ℕ} (λ b. cond b 1 0) (stands-other q table other))
+      more = omega (arith, count_by-last (stands_in q) rules (record { rule = rule; table = Some table }), ap {B = ℕ} (λ b. cond b 1 0) (stands-other q table other))
 
       by : (o : Option TableView) → HasSettled rules q o → HasSettled (rules ++ record { rule = rule; table = Some table } ∷ []) q o
       by None none = more ∙ none
@@ -140,7 +134,7 @@ module _ (rule : RuleView) (table : ℕ) (t : TemplatesView) (at : TableView) (i
       now =
           let s = settling rule at reserved in
           let one : cond (nat_eq table table) 1 0 ≡ 1 = ap {B = ℕ} (λ b. cond b 1 0) (eq-eqb table table refl) in
-          omega (arith, number, s.length_is, s.reserved_is, count_by-push (stands_in table) rules (record { rule = rule; table = Some table }), one)
+          omega (arith, number, s.length_is, s.reserved_is, count_by-last (stands_in table) rules (record { rule = rule; table = Some table }), one)
 
   pub taken-kept : (ids : ℕ) (shared : Entries) (ops : List Held) → count_by (is_held_rule rule.id) ops ≡ 0 → AreKeptFor ids t shared (held.RuleCreated rule table ∷ ops)
       → AreKeptFor ids (with_table table (settled rule) t) shared ops
@@ -151,7 +145,7 @@ module _ (rule : RuleView) (table : ℕ) (t : TemplatesView) (at : TableView) (i
     number = kept.number;
   } where
     split : (q : ℕ) → count_by (is_held_in q) (held.RuleCreated rule table ∷ ops) ≡ cond (nat_eq q table) 1 0 + count_by (is_held_in q) ops
-    split q = count-cons (is_held_in q) (held.RuleCreated rule table) ops
+    split q = count_by-first (is_held_in q) (held.RuleCreated rule table) ops
 
     others : (q : ℕ) → nat_eq q table ≡ false → HasReserved ids ops q (table_of q t)
     others q other = by (table_of q t) (kept.tables q) where
@@ -273,7 +267,7 @@ stands-at r table t in_table settled = by (table_of table t) refl (subst (IsSett
 pub plain-pushed : (rules : List Placed) (rule : RuleView) (t : TemplatesView) → HaveSettled rules t → HaveSettled (rules ++ record { rule = rule; table = None } ∷ []) t
 plain-pushed rules rule t have q = by (table_of q t) (have q) where
   same : count_by (stands_in q) (rules ++ record { rule = rule; table = None } ∷ []) ≡ count_by (stands_in q) rules
-  same = omega (arith, count_by-push (stands_in q) rules (record { rule = rule; table = None }))
+  same = omega (arith, count_by-last (stands_in q) rules (record { rule = rule; table = None }))
 
   by : (o : Option TableView) → HasSettled rules q o → HasSettled (rules ++ record { rule = rule; table = None } ∷ []) q o
   by None at = same ∙ at
@@ -301,27 +295,21 @@ count-left : (test : Placed → Bool) (id : ℕ) (list : List InEffect) (entry :
     → count_by test (map placed (rules.without id list)) + cond (test (placed entry)) 1 0 ≡ count_by test (map placed list)
 count-left test id [] entry distinct found = cc
 count-left test id (e ∷ list) entry distinct found = by (has_id id e.rule) refl found (count-left test id list entry distinct.1) where
-  some-is : {A : Type 0} {a b : A} → Some a ≡ Some b → a ≡ b
-  some-is same = cc
-
   by : (b : Bool) → has_id id e.rule ≡ b → cond b (Some e) (rules.entry_at id list) ≡ Some entry
       → (rules.entry_at id list ≡ Some entry → count_by test (map placed (rules.without id list)) + cond (test (placed entry)) 1 0 ≡ count_by test (map placed list))
       → count_by test (map placed (cond (not b) (e ∷ rules.without id list) (rules.without id list))) + cond (test (placed entry)) 1 0 ≡ count_by test (placed e ∷ map placed list)
   by true same at more =
       let none : rules.entry_at id list ≡ None = subst (λ k. rules.entry_at k list ≡ None) (eqb-true e.rule.id id same) distinct.0 in
-      let here : cond (test (placed entry)) 1 0 ≡ cond (test (placed e)) 1 0 = ap {B = ℕ} (λ (x : InEffect). cond (test (placed x)) 1 0) (sym (some-is at)) in
-      omega (arith, ap (λ l. count_by test (map placed l)) (without-none id list none), here, count-cons test (placed e) (map placed list))
+      let here : cond (test (placed entry)) 1 0 ≡ cond (test (placed e)) 1 0 = ap {B = ℕ} (λ (x : InEffect). cond (test (placed x)) 1 0) (sym (same_Some _ _ at)) in
+      omega (arith, ap (λ l. count_by test (map placed l)) (without-none id list none), here, count_by-first test (placed e) (map placed list))
   by false other at more =
-      omega (arith, more at, count-cons test (placed e) (map placed (rules.without id list)), count-cons test (placed e) (map placed list))
+      omega (arith, more at, count_by-first test (placed e) (map placed (rules.without id list)), count_by-first test (placed e) (map placed list))
 
 all-of : (P : Placed → Type 0) (id : ℕ) (list : List InEffect) (entry : InEffect) → rules.entry_at id list ≡ Some entry → All P (map placed list) → P (placed entry)
 all-of P id [] entry found all = cc
 all-of P id (e ∷ list) entry found all = by (has_id id e.rule) found (λ at. all-of P id list entry at (All-tail P (placed e) (map placed list) all)) where
-  some-is : {A : Type 0} {a b : A} → Some a ≡ Some b → a ≡ b
-  some-is same = cc
-
   by : (b : Bool) → cond b (Some e) (rules.entry_at id list) ≡ Some entry → (rules.entry_at id list ≡ Some entry → P (placed entry)) → P (placed entry)
-  by true at more = subst (λ (x : InEffect). P (placed x)) (some-is at) (All-head P (placed e) (map placed list) all)
+  by true at more = subst (λ (x : InEffect). P (placed x)) (same_Some _ _ at) (All-head P (placed e) (map placed list) all)
   by false at more = more at
 
 all-left : (P : Placed → Type 0) (id : ℕ) (list : List InEffect) → All P (map placed list) → All P (map placed (rules.without id list))
@@ -342,11 +330,8 @@ all-apart id (e ∷ list) = by (has_id id e.rule) refl (all-apart id list) where
 id-of : (id : ℕ) (list : List InEffect) (entry : InEffect) → rules.entry_at id list ≡ Some entry → entry.rule.id ≡ id
 id-of id [] entry found = cc
 id-of id (e ∷ list) entry found = by (has_id id e.rule) refl found (id-of id list entry) where
-  some-is : {A : Type 0} {a b : A} → Some a ≡ Some b → a ≡ b
-  some-is same = cc
-
   by : (b : Bool) → has_id id e.rule ≡ b → cond b (Some e) (rules.entry_at id list) ≡ Some entry → (rules.entry_at id list ≡ Some entry → entry.rule.id ≡ id) → entry.rule.id ≡ id
-  by true same at more = ap (λ (x : InEffect). x.rule.id) (sym (some-is at)) ∙ eqb-true e.rule.id id same
+  by true same at more = ap (λ (x : InEffect). x.rule.id) (sym (same_Some _ _ at)) ∙ eqb-true e.rule.id id same
   by false other at more = more at
 
 pub removes : (id : ℕ) (list : List InEffect) (entry : InEffect) → AreDistinct list → rules.entry_at id list ≡ Some entry → Removes (placed entry) (map placed list) (map placed (rules.without id list))
@@ -444,23 +429,21 @@ left-first [] t None list' found is distinct all have keys = left-none [] list' 
 left-first [] t (Some e) list' found is distinct all have keys = cc
 left-first (x ∷ list) t None list' found is distinct all have keys = cc
 left-first (x ∷ list) t (Some e) list' found is distinct all have keys =
-    let first : e ≡ x = some-is found in
+    let first : e ≡ x = same_Some _ _ found in
     let here : rules.entry_at x.rule.id (x ∷ list) ≡ Some x = ap (λ b. cond b (Some x) (rules.entry_at x.rule.id list)) (eq-eqb x.rule.id x.rule.id refl) in
     let gone : rules.without x.rule.id (x ∷ list) ≡ list
     = ap (λ b. cond (not b) (x ∷ rules.without x.rule.id list) (rules.without x.rule.id list)) (eq-eqb x.rule.id x.rule.id refl) ∙ without-none x.rule.id list distinct.0 in
     subst (λ (y : InEffect). IsLeft (Some y) list' t) (sym first)
-    (left-without x.rule.id (x ∷ list) t (Some x) list' (sym here) (is ∙ sym gone) distinct all have keys) where
-      some-is : {A : Type 0} {a b : A} → Some a ≡ Some b → a ≡ b
-      some-is same = cc
+    (left-without x.rule.id (x ∷ list) t (Some x) list' (sym here) (is ∙ sym gone) distinct all have keys)
 
 -- held operations of ids that no rule in effect has
 others-alone : (e : InEffect) (list : List InEffect) (ops : List Held) → AreOthers (map placed (e ∷ list)) ops → count_by (is_held_rule e.rule.id) ops ≡ 0
 others-alone e list ops others =
     let one : cond (nat_eq e.rule.id e.rule.id) 1 0 ≡ 1 = ap {B = ℕ} (λ b. cond b 1 0) (eq-eqb e.rule.id e.rule.id refl) in
-    omega (arith, others e.rule.id, count-cons (is_rule e.rule.id) (placed e) (map placed list), one)
+    omega (arith, others e.rule.id, count_by-first (is_rule e.rule.id) (placed e) (map placed list), one)
 
 others-left : (e : InEffect) (list : List InEffect) (ops : List Held) → AreOthers (map placed (e ∷ list)) ops → AreOthers (map placed list) ops
-others-left e list ops others id = omega (arith, others id, count-cons (is_rule id) (placed e) (map placed list))
+others-left e list ops others id = omega (arith, others id, count_by-first (is_rule id) (placed e) (map placed list))
 
 -- what is left behind all entries
 pub record AreLeft (list : List InEffect) (t : TemplatesView) : Type 0 where

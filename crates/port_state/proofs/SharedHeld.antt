@@ -6,6 +6,7 @@ use Rattle.std.specs.Option.{option_map}
 use Rattle.std.proofs.lemmas.Bool.{eqb-true, eq-eqb, lt-ltb, ltb-false}
 use Rattle.std.proofs.lemmas.List.{length-append}
 use Rattle.std.proofs.lemmas.List.Elements.{All-nil, All-cons, All-head, All-tail}
+use Rattle.std.proofs.lemmas.Option.{same_Some}
 use Rattle.flow_actions.specs.declared.action.Action.{Action}
 use Rattle.flow_rules.specs.Shared.{shared_at}
 use Rattle.template_tables.specs.TemplatesView.{TemplatesView, table_of}
@@ -20,7 +21,8 @@ use Rattle.port_state.specs.declared.held.Held.{Held}
 use Rattle.port_state.specs.declared.held.Held.TheVariants as held
 use Rattle.port_state.specs.Apart.{is_held_shared, is_shared_creation}
 use Rattle.port_state.specs.Kept.{is_held_in, HasReserved, IsHeldIn, AreKeptFor}
-use Rattle.port_state.proofs.Settling.{count-cons, none-first}
+use Rattle.port_state.proofs.Settling.{none-first}
+use Rattle.port_state.proofs.Waiting.{count_by-first}
 
 -- an id is in use where an action stands there in effect, or its creation is held
 abbrev IsInUse : Option SharedAction → Bool → Type 0
@@ -182,12 +184,9 @@ gone-kept ids id t shared ops distinct distinct' there alone kept = record {
 values-behind : (id : ℕ) (entries : Entries) (e : SharedAction) → entry_at id entries ≡ Some e → e.held ≡ true → values_in_effect (without id entries) ≡ values_in_effect entries
 values-behind id [] e found held' = refl
 values-behind id (x ∷ entries) e found held' = by (nat_eq id x.0) found (λ at. values-behind id entries e at held') where
-  some-is : {A : Type 0} {a b : A} → Some a ≡ Some b → a ≡ b
-  some-is same = cc
-
   by : (b : Bool) → cond b (Some x.1) (entry_at id entries) ≡ Some e → (entry_at id entries ≡ Some e → values_in_effect (without id entries) ≡ values_in_effect entries)
       → values_in_effect (cond b entries (x ∷ without id entries)) ≡ values_in_effect (x ∷ entries)
-  by true at more = sym (ap (λ h. cond h (values_in_effect entries) ((x.0, x.1.value) ∷ values_in_effect entries)) (ap (λ (y : SharedAction). y.held) (some-is at) ∙ held'))
+  by true at more = sym (ap (λ h. cond h (values_in_effect entries) ((x.0, x.1.value) ∷ values_in_effect entries)) (ap (λ (y : SharedAction). y.held) (same_Some _ _ at) ∙ held'))
   by false at more = ap (λ vs. cond x.1.held vs ((x.0, x.1.value) ∷ vs)) (more at)
 
 activated-is : (id : ℕ) (value : Action) (entries : Entries) → entry_at id entries ≡ Some (created value true)
@@ -202,7 +201,7 @@ activated-kept ids id value t shared ops distinct distinct' here alone kept = re
   each = each-shared id t shared (activated id shared) (λ q v other is. at q ∙ ap (λ b. cond b (Some (created value false)) (entry_at q shared)) (turned id q other) ∙ is)
       ops alone (All-tail (IsHeldIn t shared) (held.SharedCreated id value) ops kept.each);
   used = λ q. used-is q (activated id shared) (waits_for q ops) _ distinct' (at q) (by q (nat_eq q id) refl);
-  number = omega (arith, kept.number, length-activated id shared, count-cons is_shared_creation (held.SharedCreated id value) ops, values);
+  number = omega (arith, kept.number, length-activated id shared, count_by-first is_shared_creation (held.SharedCreated id value) ops, values);
 } where
   at : (q : ℕ) → entry_at q (activated id shared) ≡ cond (nat_eq q id) (Some (created value false)) (entry_at q shared)
   at q = entry_at-activated id (created value true) q shared distinct here
@@ -214,12 +213,12 @@ activated-kept ids id value t shared ops distinct distinct' here alone kept = re
       ∙ ap (λ vs. length vs + 1) (values-behind id shared (created value true) here refl)
 
   fewer : (q : ℕ) → nat_eq q id ≡ false → count_by (is_held_shared q) (held.SharedCreated id value ∷ ops) ≡ count_by (is_held_shared q) ops
-  fewer q other = omega (arith, count-cons (is_held_shared q) (held.SharedCreated id value) ops, ap {B = ℕ} (λ b. cond b 1 0) other)
+  fewer q other = omega (arith, count_by-first (is_held_shared q) (held.SharedCreated id value) ops, ap {B = ℕ} (λ b. cond b 1 0) other)
 
   tables : (q : ℕ) → HasReserved ids ops q (table_of q t)
   tables q = of (table_of q t) (kept.tables q) where
     none : count_by (is_held_in q) (held.SharedCreated id value ∷ ops) ≡ count_by (is_held_in q) ops
-    none = omega (arith, count-cons (is_held_in q) (held.SharedCreated id value) ops)
+    none = omega (arith, count_by-first (is_held_in q) (held.SharedCreated id value) ops)
 
     of : (o : Option TableView) → HasReserved ids (held.SharedCreated id value ∷ ops) q o → HasReserved ids ops q o
     of None is = sym none ∙ is
@@ -239,18 +238,18 @@ held-kept ids id value t shared ops distinct distinct' free kept = record {
       (each-shared id t shared (added id value true shared) (λ q v other is. at q ∙ ap (λ b. cond b (Some (created value true)) (entry_at q shared)) (turned id q other) ∙ is)
       ops (none-free id shared ops distinct (kept.used id) free) kept.each);
   used = λ q. used-is q (added id value true shared) (waits_for q (held.SharedCreated id value ∷ ops)) _ distinct' (at q) (by q (nat_eq q id) refl);
-  number = omega (arith, kept.number, length-append shared ((id, created value true) ∷ []), ap length (values-held id value shared), count-cons is_shared_creation (held.SharedCreated id value) ops);
+  number = omega (arith, kept.number, length-append shared ((id, created value true) ∷ []), ap length (values-held id value shared), count_by-first is_shared_creation (held.SharedCreated id value) ops);
 } where
   at : (q : ℕ) → entry_at q (added id value true shared) ≡ cond (nat_eq q id) (Some (created value true)) (entry_at q shared)
   at q = entry_at-pushed id (created value true) q shared free
 
   more : (q : ℕ) → count_by (is_held_shared q) (held.SharedCreated id value ∷ ops) ≡ cond (nat_eq q id) 1 0 + count_by (is_held_shared q) ops
-  more q = count-cons (is_held_shared q) (held.SharedCreated id value) ops
+  more q = count_by-first (is_held_shared q) (held.SharedCreated id value) ops
 
   tables : (q : ℕ) → HasReserved ids (held.SharedCreated id value ∷ ops) q (table_of q t)
   tables q = of (table_of q t) (kept.tables q) where
     none : count_by (is_held_in q) (held.SharedCreated id value ∷ ops) ≡ count_by (is_held_in q) ops
-    none = omega (arith, count-cons (is_held_in q) (held.SharedCreated id value) ops)
+    none = omega (arith, count_by-first (is_held_in q) (held.SharedCreated id value) ops)
 
     of : (o : Option TableView) → HasReserved ids ops q o → HasReserved ids (held.SharedCreated id value ∷ ops) q o
     of None is = none ∙ is

@@ -6,6 +6,7 @@ use Rattle.std.specs.Option.{option_map}
 use Rattle.std.proofs.lemmas.Bool.{eqb-true, eq-eqb}
 use Rattle.std.proofs.lemmas.List.Sums.{sum_by-cons}
 use Rattle.std.proofs.lemmas.List.Elements.{All-cons, All-head, All-tail}
+use Rattle.std.proofs.lemmas.Option.{same_Some}
 use Rattle.flow_rules.specs.RuleView.{RuleView}
 use Rattle.template_tables.specs.TableView.{TableView}
 use Rattle.template_tables.specs.TemplatesView.{TemplatesView, table_of, changed_if, with_table}
@@ -131,22 +132,19 @@ module _ (id : ℕ) (change : TableView → TableView) (t : TemplatesView) where
     by true same = subst (λ k. P k (option_map change (table_of k t))) (sym (eqb-true q id same)) here
     by false other = others q other
 
+split : (x : ℕ × Option RuleView) (more : List (ℕ × Option RuleView)) → count_by is_reserved (x ∷ more) ≡ cond (is_reserved x) 1 0 + count_by is_reserved more
+split x more = sum_by-cons (λ y. cond (is_reserved y) 1 0) x more
+
 -- as a slot is settled, one fewer is reserved
 reserved-settled : (id : ℕ) (rule : RuleView) (slots : List (ℕ × Option RuleView)) → lookup (nat_eq id) slots ≡ Some None
     → count_by is_reserved (set_value (nat_eq id) slots (Some rule)) + 1 ≡ count_by is_reserved slots
 reserved-settled id rule [] found = cc
 reserved-settled id rule (e ∷ slots) found = by (nat_eq id e.0) found (reserved-settled id rule slots) where
-  split : (x : ℕ × Option RuleView) (more : List (ℕ × Option RuleView)) → count_by is_reserved (x ∷ more) ≡ cond (is_reserved x) 1 0 + count_by is_reserved more
-  split x more = sum_by-cons (λ y. cond (is_reserved y) 1 0) x more
-
-  some-is : {A : Type 0} {a b : A} → Some a ≡ Some b → a ≡ b
-  some-is same = cc
-
   by : (b : Bool) → cond b (Some e.1) (lookup (nat_eq id) slots) ≡ Some None
       → (lookup (nat_eq id) slots ≡ Some None → count_by is_reserved (set_value (nat_eq id) slots (Some rule)) + 1 ≡ count_by is_reserved slots)
       → count_by is_reserved (cond b ((e.0, Some rule) ∷ slots) (e ∷ set_value (nat_eq id) slots (Some rule))) + 1 ≡ count_by is_reserved (e ∷ slots)
   by true at more =
-      let one : cond (is_reserved e) 1 0 ≡ 1 = ap {B = ℕ} (λ (o : Option RuleView). cond (not (is_some o)) 1 0) (some-is at) in
+      let one : cond (is_reserved e) 1 0 ≡ 1 = ap {B = ℕ} (λ (o : Option RuleView). cond (not (is_some o)) 1 0) (same_Some _ _ at) in
       omega (arith, split (e.0, Some rule) slots, split e slots, one)
   by false at more =
       omega (arith, more at, split e (set_value (nat_eq id) slots (Some rule)), split e slots)
@@ -156,17 +154,11 @@ reserved-freed : (id : ℕ) (rule : RuleView) (slots : List (ℕ × Option RuleV
     → count_by is_reserved (remove_entry (nat_eq id) slots) ≡ count_by is_reserved slots
 reserved-freed id rule [] found = refl
 reserved-freed id rule (e ∷ slots) found = by (nat_eq id e.0) found (reserved-freed id rule slots) where
-  split : (x : ℕ × Option RuleView) (more : List (ℕ × Option RuleView)) → count_by is_reserved (x ∷ more) ≡ cond (is_reserved x) 1 0 + count_by is_reserved more
-  split x more = sum_by-cons (λ y. cond (is_reserved y) 1 0) x more
-
-  some-is : {A : Type 0} {a b : A} → Some a ≡ Some b → a ≡ b
-  some-is same = cc
-
   by : (b : Bool) → cond b (Some e.1) (lookup (nat_eq id) slots) ≡ Some (Some rule)
       → (lookup (nat_eq id) slots ≡ Some (Some rule) → count_by is_reserved (remove_entry (nat_eq id) slots) ≡ count_by is_reserved slots)
       → count_by is_reserved (cond b slots (e ∷ remove_entry (nat_eq id) slots)) ≡ count_by is_reserved (e ∷ slots)
   by true at more =
-      let none : cond (is_reserved e) 1 0 ≡ 0 = ap {B = ℕ} (λ (o : Option RuleView). cond (not (is_some o)) 1 0) (some-is at) in
+      let none : cond (is_reserved e) 1 0 ≡ 0 = ap {B = ℕ} (λ (o : Option RuleView). cond (not (is_some o)) 1 0) (same_Some _ _ at) in
       omega (arith, split e slots, none)
   by false at more = omega (arith, more at, split e (remove_entry (nat_eq id) slots), split e slots)
 

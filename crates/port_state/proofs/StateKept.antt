@@ -47,10 +47,11 @@ use Rattle.port_state.specs.Apart.{is_rule, is_held_shared, IsBelow, IsHeldBelow
 use Rattle.port_state.specs.Effect.{CanHold}
 use Rattle.port_state.specs.Kept.{is_held_in}
 use Rattle.port_state.specs.Queue.{FlowQueue}
-use Rattle.port_state.specs.State.{State, Placed, all_held, queue_at, queue_fault, full_fault, succeeds, taken, stepped, pushed, pulled, waiting, admitted, enqueued, configured, configure_refusals, objects, users_of, is_held_user, stands_in, shared_set, shared_gone, state_of, state_behind, opening, rule_in, kinds_in, created, destroyed, flushed, isolated, is_in_effect, create_fault, room_fault, ids_fault, first_of, plain, is_plain, next_state, templates_in, with_templates, queued_update_fault, bound, bound_fault, table_rule_fault, if_bound, creation_held, has_kind_of, is_table_rule_of}
+use Rattle.port_state.specs.State.{State, Placed, all_held, queue_at, queue_fault, full_fault, stepped, pushed, pulled, waiting, admitted, enqueued, configured, configure_refusals, objects, users_of, is_held_user, stands_in, shared_set, shared_gone, state_of, state_behind, opening, rule_in, kinds_in, created, destroyed, flushed, isolated, is_in_effect, create_fault, room_fault, ids_fault, first_of, plain, is_plain, next_state, templates_in, with_templates, bound, bound_fault, table_rule_fault, if_bound, creation_held, has_kind_of, is_table_rule_of}
 use Rattle.port_state.specs.Tables.{Table, Templates, pattern_made, actions_made, table_made, pattern_gone, actions_gone, table_gone}
-use Rattle.port_state.proofs.ApartKept.{AreApart-stepped, AreApart-waiting, AreApart-created, AreApart-destroyed, AreApart-flushed, AreApart-isolated, AreApart-set, AreApart-gone, AreApart-templates, AreApart-configured, AreApart-pulled, update-there, CanHold-bound, CanHold-shared, may-go, free-objects, in_effect-objects, judged, ids-tried, unless-keeps, if-keeps, count_by-filter, fresh-rules, one_if, one_of}
-use Rattle.port_state.proofs.Waiting.{AreBehind, tried, behind-stepped, all-stepped, count-waiting, all-waiting, count-with_queue, all-with_queue, all-at, pushed-keeps, count_by-first, count_by-last, none-held, first_of-none, there-queue, there-full}
+use Rattle.port_state.proofs.ApartKept.{AreApart-stepped, AreApart-waiting, AreApart-created, AreApart-destroyed, AreApart-flushed, AreApart-isolated, AreApart-set, AreApart-gone, AreApart-templates, AreApart-configured, AreApart-pulled, update-there, CanHold-bound, CanHold-shared, may-go, none-is, free-objects, in_effect-objects, unless-keeps, if-keeps, count_by-filter, fresh-rules, one_if, one_of}
+use Rattle.port_state.proofs.Objects.{object_of}
+use Rattle.port_state.proofs.Waiting.{AreBehind, tried, behind-stepped, all-stepped, count-waiting, all-waiting, count-with_queue, all-with_queue, all-at, pushed-keeps, count_by-first, count_by-last, none-held, first_of-none, there-queue, there-full, others-tried}
 use Rattle.port_state.proofs.TableRoom.{HaveRoom, room_at, room_of, slot-free, not-busy, room_at-without, room_of-without, room_at-more, rules_of-found}
 use Rattle.port_state.proofs.FlowsBehind.{map-without}
 
@@ -171,10 +172,10 @@ kind-created s new value others behind apart = by (shared_at new s.shared) refl 
 
 pub kind-updated : (value : Action) (o : Option Action) → has_kind_of value o ≡ true → IsOfItsKind o value
 kind-updated value None is = cc
-kind-updated value (Some old) is = kind-kept value (judged 0 old) (ap not is)
+kind-updated value (Some old) is = kind-kept value (object_of 0 old) (ap not is)
 
 -- a value that was taken as it was enqueued
-pub IsSharedOn-queued : (rxq : ℕ) (value : Action) → queued_update_fault rxq value ≡ None → IsSharedOn rxq value
+pub IsSharedOn-queued : (rxq : ℕ) (value : Action) → shared_calls.queued_update_fault rxq value ≡ None → IsSharedOn rxq value
 IsSharedOn-queued rxq value none = by (is_shareable (kind_of value)) (is_count value) (is_bad rxq 0 value) refl refl none where
   by : (shareable count bad : Bool) → is_shareable (kind_of value) ≡ shareable → is_bad rxq 0 value ≡ bad
       → first (fault_if (not shareable) causes.KindNotIndirect 0 ++ (fault_if count causes.CannotUpdate 0 ++ fault_if bad causes.ActionConf 0)) ≡ None → IsSharedOn rxq value
@@ -182,6 +183,36 @@ IsSharedOn-queued rxq value none = by (is_shareable (kind_of value)) (is_count v
   by true true bad a b none = cc
   by true false true a b none = cc
   by true false false a b none = (a, on_port rxq 0 value b)
+
+-- with fewer rules and fewer held operations, and with these shared values
+fewer : (limits : Limits) (s : State) (rules : List Placed) (shared : Shared) (list : List Held) → IsUnder limits s → All (IsFor limits.rxq) (map rule_in rules) → AreSharedOn limits.rxq shared
+    → ((test : Placed → Bool) → count_by test rules ≤ count_by test s.rules) → ((test : Held → Bool) → count_by test list ≤ count_by test (all_held s))
+    → All (IsHeldFor limits.rxq) list → (AreLimits limits → All (MayFollow limits.rxq shared) list) → Fits limits rules shared s.ids s.rxq s.templates.tables list
+fewer limits s rules shared list v queues values few_rules few on may = record {
+  numbers = v.numbers;
+  port = v.port;
+  queues = queues;
+  values = values;
+  plain = omega (arith, v.plain, few_rules is_plain);
+  held_queues = on;
+  within = λ id. omega (arith, v.tables id, few_rules (stands_in id), few (is_held_in id));
+  room = v.room;
+  may = may;
+}
+
+-- without the rules of an id, and with the same rules
+without : (limits : Limits) (s : State) (id : ℕ) (list : List Held) → IsUnder limits s → ((test : Held → Bool) → count_by test list ≤ count_by test (all_held s))
+    → All (IsHeldFor limits.rxq) list → (AreLimits limits → All (MayFollow limits.rxq s.shared) list)
+    → Fits limits (destroyed id s).rules s.shared s.ids s.rxq s.templates.tables list
+without limits s id list v =
+    let kept = All-filter (λ (rule : RuleView). not (has_id id rule)) (IsFor limits.rxq) (map rule_in s.rules) v.queues in
+    fewer limits s (destroyed id s).rules s.shared list v (subst (All (IsFor limits.rxq)) (sym (map-without id s.rules)) kept) v.shared
+    (λ test. count_by-filter test (λ (r : Placed). not (has_id id r.rule)) s.rules)
+
+sharing : (limits : Limits) (s : State) (shared : Shared) (list : List Held) → IsUnder limits s → AreSharedOn limits.rxq shared
+    → ((test : Held → Bool) → count_by test list ≤ count_by test (all_held s)) → All (IsHeldFor limits.rxq) list → (AreLimits limits → All (MayFollow limits.rxq shared) list)
+    → Fits limits s.rules shared s.ids s.rxq s.templates.tables list
+sharing limits s shared list v values = fewer limits s s.rules shared list v v.queues values (λ test. omega arith)
 
 -- the operation at the head of a queue takes effect, or fails
 fits-tried : (limits : Limits) (s : State) (op : Held) (list : List Held) → AreBehind op list (all_held s) → IsUnder limits s → IsFit limits.rxq op → IsHeldFor limits.rxq op
@@ -201,125 +232,38 @@ fits-tried limits s (held.RuleCreated rule table) list behind v fit on others ma
       may = may;
     }
 fits-tried limits s (held.RuleDestroyed id) list behind v fit on others may = by (list_any (is_table_rule_of id) s.rules) where
-  keep : Placed → Bool
-  keep r = not (has_id id r.rule)
-
   by : (b : Bool) → Fits limits (cond b (destroyed id s) s).rules (cond b (destroyed id s) s).shared s.ids s.rxq s.templates.tables list
-  by true = record {
-    numbers = v.numbers;
-    port = v.port;
-    queues = subst (All (IsFor limits.rxq)) (sym (map-without id s.rules)) (All-filter (λ (rule : RuleView). not (has_id id rule)) (IsFor limits.rxq) (map rule_in s.rules) v.queues);
-    values = v.shared;
-    plain = omega (arith, v.plain, count_by-filter is_plain (λ (r : Placed). not (has_id id r.rule)) s.rules);
-    held_queues = others;
-    within = λ q. omega (arith, v.tables q, behind (is_held_in q), count_by-filter (stands_in q) (λ (r : Placed). not (has_id id r.rule)) s.rules);
-    room = v.room;
-    may = may;
-  }
-  by false = record {
-    numbers = v.numbers;
-    port = v.port;
-    queues = v.queues;
-    values = v.shared;
-    plain = v.plain;
-    held_queues = others;
-    within = λ q. omega (arith, v.tables q, behind (is_held_in q));
-    room = v.room;
-    may = may;
-  }
-fits-tried limits s (held.SharedCreated new value) list behind v fit on others may = record {
-  numbers = v.numbers;
-  port = v.port;
-  queues = v.queues;
-  values = AreSharedOn-with limits.rxq new value s.shared fit v.shared;
-  plain = v.plain;
-  held_queues = others;
-  within = λ q. omega (arith, v.tables q, behind (is_held_in q));
-  room = v.room;
-  may = λ ranges. all-set limits.rxq new value s.shared list fit (kind-created s new value list behind v.apart) (may ranges);
-}
+  by true = without limits s id list v (λ test. omega (arith, behind test)) others may
+  by false = sharing limits s s.shared list v v.shared (λ test. omega (arith, behind test)) others may
+fits-tried limits s (held.SharedCreated new value) list behind v fit on others may =
+    sharing limits s (with_shared new value s.shared) list v (AreSharedOn-with limits.rxq new value s.shared fit v.shared) (λ test. omega (arith, behind test)) others
+    (λ ranges. all-set limits.rxq new value s.shared list fit (kind-created s new value list behind v.apart) (may ranges))
 fits-tried limits s (held.SharedUpdated new value) list behind v fit on others may = by (has_kind_of value (shared_at new s.shared)) refl where
   by : (b : Bool) → has_kind_of value (shared_at new s.shared) ≡ b
       → Fits limits (cond b (shared_set new value s) s).rules (cond b (shared_set new value s) s).shared s.ids s.rxq s.templates.tables list
-  by true is = record {
-    numbers = v.numbers;
-    port = v.port;
-    queues = v.queues;
-    values = AreSharedOn-with limits.rxq new value s.shared (IsSharedOn-queued limits.rxq value fit) v.shared;
-    plain = v.plain;
-    held_queues = others;
-    within = λ q. omega (arith, v.tables q, behind (is_held_in q));
-    room = v.room;
-    may = λ ranges. all-set limits.rxq new value s.shared list (IsSharedOn-queued limits.rxq value fit) (kind-updated value (shared_at new s.shared) is) (may ranges);
-  }
-  by false is = record {
-    numbers = v.numbers;
-    port = v.port;
-    queues = v.queues;
-    values = v.shared;
-    plain = v.plain;
-    held_queues = others;
-    within = λ q. omega (arith, v.tables q, behind (is_held_in q));
-    room = v.room;
-    may = may;
-  }
+  by true is =
+      let lawful = IsSharedOn-queued limits.rxq value fit in
+      sharing limits s (with_shared new value s.shared) list v (AreSharedOn-with limits.rxq new value s.shared lawful v.shared) (λ test. omega (arith, behind test)) others
+      (λ ranges. all-set limits.rxq new value s.shared list lawful (kind-updated value (shared_at new s.shared) is) (may ranges))
+  by false is = sharing limits s s.shared list v v.shared (λ test. omega (arith, behind test)) others may
 fits-tried limits s (held.SharedDestroyed new) list behind v fit on others may = by (is_none (shared_calls.destroy_fault (objects s) new)) refl where
-  fault-none : (o : Option Fault) → is_none o ≡ true → o ≡ None
-  fault-none None is = refl
-  fault-none (Some fault) is = cc
-
   by : (b : Bool) → is_none (shared_calls.destroy_fault (objects s) new) ≡ b
       → Fits limits (cond b (shared_gone new s) s).rules (cond b (shared_gone new s) s).shared s.ids s.rxq s.templates.tables list
   by true is =
-      let unused = (may-go s new (fault-none (shared_calls.destroy_fault (objects s) new) is)).unused in
-      record {
-        numbers = v.numbers;
-        port = v.port;
-        queues = v.queues;
-        values = AreSharedOn-without limits.rxq new s.shared v.shared;
-        plain = v.plain;
-        held_queues = others;
-        within = λ q. omega (arith, v.tables q, behind (is_held_in q));
-        room = v.room;
-        may = λ ranges. all-gone limits.rxq new s.shared list (omega (arith, unused, behind (is_held_user new))) (may ranges);
-      }
-  by false is = record {
-    numbers = v.numbers;
-    port = v.port;
-    queues = v.queues;
-    values = v.shared;
-    plain = v.plain;
-    held_queues = others;
-    within = λ q. omega (arith, v.tables q, behind (is_held_in q));
-    room = v.room;
-    may = may;
-  }
-
-templates-taken : (s : State) (op : Held) → (taken s op).templates ≡ s.templates
-templates-taken s (held.RuleCreated rule table) = refl
-templates-taken s (held.RuleDestroyed id) = refl
-templates-taken s (held.SharedCreated id value) = refl
-templates-taken s (held.SharedUpdated id value) = refl
-templates-taken s (held.SharedDestroyed id) = refl
-
-templates-tried : (s : State) (op : Held) → (tried s op).templates ≡ s.templates
-templates-tried s op = by (succeeds s op) where
-  by : (b : Bool) → (cond b (taken s op) s).templates ≡ s.templates
-  by true = templates-taken s op
-  by false = refl
+      let unused = (may-go s new (none-is (shared_calls.destroy_fault (objects s) new) is)).unused in
+      sharing limits s (without_shared new s.shared) list v (AreSharedOn-without limits.rxq new s.shared v.shared) (λ test. omega (arith, behind test)) others
+      (λ ranges. all-gone limits.rxq new s.shared list (omega (arith, unused, behind (is_held_user new))) (may ranges))
+  by false is = sharing limits s s.shared list v v.shared (λ test. omega (arith, behind test)) others may
 
 -- an operation takes effect
 pub IsUnder-stepped : (limits : Limits) (q : ℕ) (s : State) (op : Held) (ops : List Held) → (queue_at q s).held ≡ op ∷ ops → IsUnder limits s → IsUnder limits (stepped q s op)
 IsUnder-stepped limits q s op ops is v =
     let t = stepped q s op in
-    let same = ids-tried s op in
     let fit = subst (λ n. IsFit n op) v.port (all-stepped (IsFit s.rxq) q s op ops is v.apart.fit).0 in
     let on = all-stepped (IsHeldFor limits.rxq) q s op ops is v.held_queues in
     under limits t (AreApart-stepped q s op ops is v.apart)
-    (subst (λ n. Fits limits (tried s op).rules (tried s op).shared n (tried s op).rxq (tried s op).templates.tables (all_held t)) (sym same.0)
-    (subst (λ n. Fits limits (tried s op).rules (tried s op).shared s.ids n (tried s op).templates.tables (all_held t)) (sym same.1)
-    (subst (λ (n : Templates). Fits limits (tried s op).rules (tried s op).shared s.ids s.rxq n.tables (all_held t)) (sym (templates-tried s op))
-    (fits-tried limits s op (all_held t) (behind-stepped q s op ops is) v fit on.0 on.1 (λ ranges. (all-stepped (MayFollow limits.rxq s.shared) q s op ops is (v.may ranges)).1)))))
+    (subst (λ (u : State). Fits limits (tried s op).rules (tried s op).shared u.ids u.rxq u.templates.tables (all_held t)) (sym (others-tried s op))
+    (fits-tried limits s op (all_held t) (behind-stepped q s op ops is) v fit on.0 on.1 (λ ranges. (all-stepped (MayFollow limits.rxq s.shared) q s op ops is (v.may ranges)).1)))
 
 pub IsUnder-pushed : (limits : Limits) (q : ℕ) (s : State) → IsUnder limits s → IsUnder limits (pushed q s)
 IsUnder-pushed limits q s v = pushed-keeps (IsUnder limits) q (IsUnder-stepped limits q) s v
@@ -432,32 +376,12 @@ IsUnder-created limits s spec none v =
     })
 
 IsUnder-destroyed : (limits : Limits) (s : State) (id : ℕ) → IsUnder limits s → IsUnder limits (destroyed id s)
-IsUnder-destroyed limits s id v =
-    let keep : Placed → Bool = λ (r : Placed). not (has_id id r.rule) in
-    under limits (destroyed id s) (AreApart-destroyed id s v.apart) (record {
-      numbers = v.numbers;
-      port = v.port;
-      queues = subst (All (IsFor limits.rxq)) (sym (map-without id s.rules)) (All-filter (λ (rule : RuleView). not (has_id id rule)) (IsFor limits.rxq) (map rule_in s.rules) v.queues);
-      values = v.shared;
-      plain = omega (arith, v.plain, count_by-filter is_plain keep s.rules);
-      held_queues = v.held_queues;
-      within = λ q. omega (arith, v.tables q, count_by-filter (stands_in q) keep s.rules);
-      room = v.room;
-      may = v.may;
-    })
+IsUnder-destroyed limits s id v = under limits (destroyed id s) (AreApart-destroyed id s v.apart) (without limits s id (all_held s) v (λ test. omega arith) v.held_queues v.may)
 
 IsUnder-flushed : (limits : Limits) (s : State) → IsUnder limits s → IsUnder limits (flushed s)
-IsUnder-flushed limits s v = under limits (flushed s) (AreApart-flushed s v.apart) (record {
-  numbers = v.numbers;
-  port = v.port;
-  queues = All-nil (IsFor limits.rxq);
-  values = v.shared;
-  plain = omega arith;
-  held_queues = v.held_queues;
-  within = λ id. omega (arith, v.tables id);
-  room = v.room;
-  may = v.may;
-})
+IsUnder-flushed limits s v =
+    under limits (flushed s) (AreApart-flushed s v.apart)
+    (fewer limits s [] s.shared (all_held s) v (All-nil (IsFor limits.rxq)) v.shared (λ test. omega arith) (λ test. omega arith) v.held_queues v.may)
 
 IsUnder-isolated : (limits : Limits) (s : State) (on : Bool) → IsUnder limits s → IsUnder limits (isolated on s)
 IsUnder-isolated limits s on v = under limits (isolated on s) (AreApart-isolated on s v.apart) (fits-of limits s v)
@@ -466,30 +390,15 @@ IsUnder-set : (limits : Limits) (s : State) (id : ℕ) (value : Action) → IsSh
     → IsUnder limits s → IsUnder limits (shared_set id value s)
 IsUnder-set limits s id value lawful kind apart v =
     let on = subst (λ n. IsSharedOn n value) v.port lawful in
-    under limits (shared_set id value s) apart (record {
-      numbers = v.numbers;
-      port = v.port;
-      queues = v.queues;
-      values = AreSharedOn-with limits.rxq id value s.shared on v.shared;
-      plain = v.plain;
-      held_queues = v.held_queues;
-      within = v.tables;
-      room = v.room;
-      may = λ ranges. all-set limits.rxq id value s.shared (all_held s) on kind (v.may ranges);
-    })
+    under limits (shared_set id value s) apart
+    (sharing limits s (with_shared id value s.shared) (all_held s) v (AreSharedOn-with limits.rxq id value s.shared on v.shared) (λ test. omega arith) v.held_queues
+    (λ ranges. all-set limits.rxq id value s.shared (all_held s) on kind (v.may ranges)))
 
 IsUnder-gone : (limits : Limits) (s : State) (id : ℕ) → shared_calls.destroy_fault (objects s) id ≡ None → IsUnder limits s → IsUnder limits (shared_gone id s)
-IsUnder-gone limits s id none v = under limits (shared_gone id s) (AreApart-gone id s v.apart) (record {
-  numbers = v.numbers;
-  port = v.port;
-  queues = v.queues;
-  values = AreSharedOn-without limits.rxq id s.shared v.shared;
-  plain = v.plain;
-  held_queues = v.held_queues;
-  within = v.tables;
-  room = v.room;
-  may = λ ranges. all-gone limits.rxq id s.shared (all_held s) (omega (arith, (may-go s id none).unused)) (v.may ranges);
-})
+IsUnder-gone limits s id none v =
+    under limits (shared_gone id s) (AreApart-gone id s v.apart)
+    (sharing limits s (without_shared id s.shared) (all_held s) v (AreSharedOn-without limits.rxq id s.shared v.shared) (λ test. omega arith) v.held_queues
+    (λ ranges. all-gone limits.rxq id s.shared (all_held s) (omega (arith, (may-go s id none).unused)) (v.may ranges)))
 
 -- other templates and tables
 IsUnder-templates : (limits : Limits) (s : State) (change : Templates → Templates) → HaveRoom s.rules (all_held s) (change s.templates).tables → room_of (change s.templates).tables ≤ 65536
@@ -548,32 +457,16 @@ IsUnder-configured : (limits : Limits) (s : State) (queues size : ℕ) → IsUnd
 IsUnder-configured limits s queues size v = under limits (configured queues size s) (AreApart-configured queues size s v.apart)
     (subst (Fits limits s.rules s.shared s.ids s.rxq s.templates.tables) (sym (none-held queues)) empty) where
       empty : Fits limits s.rules s.shared s.ids s.rxq s.templates.tables []
-      empty = record {
-        numbers = v.numbers;
-        port = v.port;
-        queues = v.queues;
-        values = v.shared;
-        plain = v.plain;
-        held_queues = All-nil (IsHeldFor limits.rxq);
-        within = λ id. omega (arith, v.tables id);
-        room = v.room;
-        may = λ ranges. All-nil (MayFollow limits.rxq s.shared);
-      }
+      empty =
+          sharing limits s s.shared [] v v.shared (λ test. omega arith) (All-nil (IsHeldFor limits.rxq)) (λ ranges. All-nil (MayFollow limits.rxq s.shared))
 
 IsUnder-pulled : (limits : Limits) (q : ℕ) (s : State) → q < length s.queues → IsUnder limits s → IsUnder limits (pulled q s)
 IsUnder-pulled limits q s there v =
     let queue : FlowQueue = record { held = (queue_at q s).held; results = [] } in
-    under limits (pulled q s) (AreApart-pulled q s there v.apart) (record {
-      numbers = v.numbers;
-      port = v.port;
-      queues = v.queues;
-      values = v.shared;
-      plain = v.plain;
-      held_queues = all-with_queue (IsHeldFor limits.rxq) q queue s v.held_queues (all-at (IsHeldFor limits.rxq) q s v.held_queues);
-      within = λ id. omega (arith, v.tables id, count-with_queue (is_held_in id) q queue s there);
-      room = v.room;
-      may = λ ranges. all-with_queue (MayFollow limits.rxq s.shared) q queue s (v.may ranges) (all-at (MayFollow limits.rxq s.shared) q s (v.may ranges));
-    })
+    under limits (pulled q s) (AreApart-pulled q s there v.apart)
+    (sharing limits s s.shared (all_held (pulled q s)) v v.shared (λ test. omega (arith, count-with_queue test q queue s there))
+    (all-with_queue (IsHeldFor limits.rxq) q queue s v.held_queues (all-at (IsHeldFor limits.rxq) q s v.held_queues))
+    (λ ranges. all-with_queue (MayFollow limits.rxq s.shared) q queue s (v.may ranges) (all-at (MayFollow limits.rxq s.shared) q s (v.may ranges))))
 
 no-fault : (limits : Limits) (s : State) (table pt act : ℕ) (lists : RuleLists) (spec : RuleSpec) → bound s table pt act lists ≡ Some spec
     → table_rule_fault limits s table pt act lists ≡ None → first_fault limits (kinds_in s) spec ≡ None
@@ -602,9 +495,9 @@ pub kind-new : (s : State) (id : Option ℕ) (attr : Attr) (action : Action) →
     → IsOfItsKind (shared_at (id_for id (objects s)) s.shared) action
 kind-new s id attr action none = kind-free action (shared_at (id_for id (objects s)) s.shared) (free-objects s (id_for id (objects s)) (CanHold-shared s id attr action none).0.free).0
 
-kind-other : (users : ℕ) (value : Action) (o : Option Action) → shared_calls.is_of_other_kind value (option_map (judged users) o) ≡ false → IsOfItsKind o value
+kind-other : (users : ℕ) (value : Action) (o : Option Action) → shared_calls.is_of_other_kind value (option_map (object_of users) o) ≡ false → IsOfItsKind o value
 kind-other users value None same = tt
-kind-other users value (Some old) same = kind-kept value (judged users old) same
+kind-other users value (Some old) same = kind-kept value (object_of users old) same
 
 pub kind-update : (s : State) (id : ℕ) (value : Action) → shared_calls.update_fault s.rxq (objects s) id value ≡ None → IsOfItsKind (shared_at id s.shared) value
 kind-update s id value none =
@@ -666,8 +559,8 @@ IsUnder-next limits s (ops.QueueIndirectCreate q postpone id attr action) v =
     (λ none. let parts = first_of-none (full_fault s q) (shared_calls.create_fault s.rxq (objects s) id attr action) none in
     IsUnder-enqueued limits q postpone op s (there-full s q parts.0) (CanHold-shared s id attr action parts.1) tt (λ ranges. tt) v) v
 IsUnder-next limits s (ops.QueueIndirectUpdate q postpone id action) v =
-    unless-keeps (IsUnder limits) (first_of (full_fault s q) (queued_update_fault s.rxq action)) (enqueued q postpone (held.SharedUpdated id action) s) s
-    (λ none. let parts = first_of-none (full_fault s q) (queued_update_fault s.rxq action) none in
+    unless-keeps (IsUnder limits) (first_of (full_fault s q) (shared_calls.queued_update_fault s.rxq action)) (enqueued q postpone (held.SharedUpdated id action) s) s
+    (λ none. let parts = first_of-none (full_fault s q) (shared_calls.queued_update_fault s.rxq action) none in
     IsUnder-enqueued limits q postpone (held.SharedUpdated id action) s (there-full s q parts.0) parts.1 tt (λ ranges. tt) v) v
 IsUnder-next limits s (ops.QueueIndirectDestroy q postpone id) v =
     unless-keeps (IsUnder limits) (full_fault s q) (enqueued q postpone (held.SharedDestroyed id) s) s

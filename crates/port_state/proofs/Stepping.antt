@@ -1,8 +1,7 @@
 -- The oldest operation of a queue, as it takes effect or fails.
-use Rattle.std.proofs.Common.{◌≡◌, ℕ, ◌∷◌, [], ◌++◌, Bool, true, false, cond, nat_eq, drop, List, Option, None, Some, refl, sym, ap, ◌∙◌, subst, arith, true≢false}
+use Rattle.std.proofs.Common.{◌≡◌, ℕ, ◌∷◌, [], ◌++◌, Bool, true, false, cond, nat_eq, drop, List, refl, sym, ap, ◌∙◌, subst, arith, true≢false}
 use Rattle.std.specs.List.{All, IsDistinct, count_by}
 use Rattle.std.specs.Map.{keys_of}
-use Rattle.std.specs.Option.{is_none}
 use Rattle.std.proofs.lemmas.Bool.{eq-eqb}
 use Rattle.flow_rules.specs.declared.counter.Counter.{Counter}
 use Rattle.flow_rules.specs.declared.counter.Count.{Count}
@@ -22,19 +21,15 @@ use Rattle.port_state.specs.State.{State, all_held, flows_of, objects, queue_at,
 use Rattle.port_state.proofs.Alone.{no-rule}
 use Rattle.port_state.proofs.FlowsBehind.{flows-taken}
 use Rattle.port_state.proofs.Holding.{kept-same, kept-without}
+use Rattle.port_state.proofs.ApartKept.{none-is}
 use Rattle.port_state.proofs.Objects.{destroy-there, objects-update}
-use Rattle.port_state.proofs.Settling.{count-cons}
 use Rattle.port_state.proofs.Succeeds.{update-succeeds}
-use Rattle.port_state.proofs.Waiting.{all-at, all-with_queue, AreBehind, behind-with_queue}
+use Rattle.port_state.proofs.Waiting.{all-at, all-with_queue, AreBehind, behind-with_queue, count_by-first}
 use Rattle.std.proofs.lemmas.List.Elements.{All-cons, All-head, All-tail}
 
 -- the queue behind its first operation, which succeeded or not
 abbrev pub popped : ℕ → State → Bool → FlowQueue
 popped q s ok = record { held = drop 1 (queue_at q s).held; results = (queue_at q s).results ++ ok ∷ [] }
-
-none-is : {A : Type 0} (o : Option A) → is_none o ≡ true → o ≡ None
-none-is None is = refl
-none-is (Some x) is = absurd (true≢false (sym is))
 
 -- what the first operation needs is there where it succeeds
 pub ready-first : (k : KeptState) (op : Held) → IsDistinct nat_eq (keys_of k.shared) → IsHeldIn k.templates k.shared op → ((id : ℕ) → is_held_rule id op ≡ true → count_by (is_rule id) (state_in k).rules ≡ 0)
@@ -90,7 +85,7 @@ pub kept-popped : (ids : ℕ) (t : TemplatesView) (shared : Entries) (q : ℕ) (
     → AreKeptFor ids t shared (all_held s) → AreKeptFor ids t shared (op ∷ all_held (with_queue q (popped q s ok) s))
 kept-popped ids t shared q s ok op ops is kept =
     kept-same ids t shared (all_held s) (op ∷ all_held (with_queue q (popped q s ok) s))
-    (λ test. omega (arith, count-cons test op (all_held (with_queue q (popped q s ok) s)), first-behind q s ok op ops is test))
+    (λ test. omega (arith, count_by-first test op (all_held (with_queue q (popped q s ok) s)), first-behind q s ok op ops is test))
     (λ P all.
     let here = subst (All P) is (all-at P q s all) in
     All-cons P op (all_held (with_queue q (popped q s ok) s)) (All-head P op ops here)

@@ -8,8 +8,8 @@ use Rattle.flow_rules.specs.declared.fault.Cause.TheVariants as causes
 use Rattle.flow_rules.specs.Faults.{fault_if, first, is_bad, is_count}
 use Rattle.flow_rules.specs.Shared.{shared_at}
 use Rattle.indirect_counters.specs.declared.shared_action.SharedAction.{SharedAction}
-use Rattle.indirect_counters.specs.Refusals.{is_of_other_kind, is_same_kind, update_fault}
-use Rattle.port_state.specs.State.{State, all_held, has_kind_of, is_held_user, is_user, objects, queued_update_fault}
+use Rattle.indirect_counters.specs.Refusals.{is_of_other_kind, is_same_kind, queued_update_fault, update_fault}
+use Rattle.port_state.specs.State.{State, all_held, has_kind_of, is_held_user, is_user, objects}
 use Rattle.port_state.proofs.Objects.{judged-at, object_of}
 
 -- a value that was taken as it was enqueued

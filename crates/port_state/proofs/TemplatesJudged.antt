@@ -167,21 +167,21 @@ slots-left k settled kept id =
 pub table-there : (k : KeptState) (id : ℕ) → is_some (table_of id k.templates) ≡ is_some (table_of id (templates_in (state_in k)))
 table-there k id = used-seen (state_in k).rules (all_held (state_in k)) k.templates.tables id
 
+-- what depends on a table by its templates alone
+by-templates : {A : Type 0} (k : KeptState) (id : ℕ) (read : TemplatesView → Option TableView → A)
+    → ((o : Option TableView) → read k.templates o ≡ read (templates_in (state_in k)) (option_map (judged (state_in k).rules (all_held (state_in k)) id) o))
+    → read k.templates (table_of id k.templates) ≡ read (templates_in (state_in k)) (table_of id (templates_in (state_in k)))
+by-templates k id read alike = alike (table_of id k.templates) ∙ ap (read (templates_in (state_in k))) (sym (seen-lookup (state_in k).rules (all_held (state_in k)) id k.templates.tables))
+
 pub bind-fault : (k : KeptState) (id pt act : ℕ) (pattern : Pattern) (actions : Actions)
     → bind_refusals k.templates id pt act pattern actions ≡ bind_refusals (templates_in (state_in k)) id pt act pattern actions
-bind-fault k id pt act pattern actions =
-    let rules = (state_in k).rules in
-    let ops = all_held (state_in k) in
-    faults-judged rules ops k.templates (seen rules ops k.templates.tables) id pt act pattern actions (table_of id k.templates)
-    ∙ ap (λ (o : Option TableView). faults_in (templates_in (state_in k)) o pt act pattern actions) (sym (seen-lookup rules ops id k.templates.tables))
+bind-fault k id pt act pattern actions = by-templates k id (λ (t : TemplatesView) (o : Option TableView). faults_in t o pt act pattern actions)
+    (faults-judged (state_in k).rules (all_held (state_in k)) k.templates (templates_in (state_in k)).tables id pt act pattern actions)
 
 pub bind-rule : (k : KeptState) (id pt act : ℕ) (pattern : Pattern) (actions : Actions)
     → bound_in k.templates id pt act pattern actions ≡ bound_in (templates_in (state_in k)) id pt act pattern actions
-bind-rule k id pt act pattern actions =
-    let rules = (state_in k).rules in
-    let ops = all_held (state_in k) in
-    bound-judged rules ops k.templates (seen rules ops k.templates.tables) id pt act pattern actions (table_of id k.templates)
-    ∙ ap (λ (o : Option TableView). bound_by (templates_in (state_in k)) o pt act pattern actions) (sym (seen-lookup rules ops id k.templates.tables))
+bind-rule k id pt act pattern actions = by-templates k id (λ (t : TemplatesView) (o : Option TableView). bound_by t o pt act pattern actions)
+    (bound-judged (state_in k).rules (all_held (state_in k)) k.templates (templates_in (state_in k)).tables id pt act pattern actions)
 
 -- a rule is bound in a table that is there
 pub bound-there : (t : TemplatesView) (o : Option TableView) (pt act : ℕ) (pattern : Pattern) (actions : Actions) (spec : RuleSpec) → bound_by t o pt act pattern actions ≡ Some spec → IsSome o

@@ -108,23 +108,26 @@ first_of-none (Some fault) b e = cc
 pub there-full : (s : State) (q : ℕ) → full_fault s q ≡ None → q < length s.queues
 there-full s q none = there-queue s q (first_of-none (queue_fault s q) (first (fault_if (nat_eq (in_flight (queue_at q s)) s.queue_size) causes.QueueFull 0)) none).0
 
--- an operation leaves the queues
-pub queues-taken : (s : State) (op : Held) → (taken s op).queues ≡ s.queues
-queues-taken s (held.RuleCreated rule table) = refl
-queues-taken s (held.RuleDestroyed id) = refl
-queues-taken s (held.SharedCreated id value) = refl
-queues-taken s (held.SharedUpdated id value) = refl
-queues-taken s (held.SharedDestroyed id) = refl
+-- an operation leaves all but rules and shared actions
+pub others-taken : (s : State) (op : Held) → taken s op ≡ record s { rules = (taken s op).rules; shared = (taken s op).shared }
+others-taken s (held.RuleCreated rule table) = refl
+others-taken s (held.RuleDestroyed id) = refl
+others-taken s (held.SharedCreated id value) = refl
+others-taken s (held.SharedUpdated id value) = refl
+others-taken s (held.SharedDestroyed id) = refl
 
 -- what an operation comes to: it takes effect, or fails and changes nothing
 abbrev pub tried : State → Held → State
 tried s op = cond (succeeds s op) (taken s op) s
 
-queues-tried : (s : State) (op : Held) → (tried s op).queues ≡ s.queues
-queues-tried s op = by (succeeds s op) where
-  by : (b : Bool) → (cond b (taken s op) s).queues ≡ s.queues
-  by true = queues-taken s op
+pub others-tried : (s : State) (op : Held) → tried s op ≡ record s { rules = (tried s op).rules; shared = (tried s op).shared }
+others-tried s op = by (succeeds s op) where
+  by : (b : Bool) → cond b (taken s op) s ≡ record s { rules = (cond b (taken s op) s).rules; shared = (cond b (taken s op) s).shared }
+  by true = others-taken s op
   by false = refl
+
+queues-tried : (s : State) (op : Held) → (tried s op).queues ≡ s.queues
+queues-tried s op = ap (λ (t : State). t.queues) (others-tried s op)
 
 -- a queue behind its first operation
 abbrev pub queue_behind : ℕ → State → Held → FlowQueue
@@ -182,12 +185,15 @@ pub pushed-keeps : (P : State → Type 0) (q : ℕ) → ((s : State) (op : Held)
 pushed-keeps P q each s p = steps-keep P q each (queue_at q s).held s refl p
 
 -- an operation that comes to wait
+pub others-admitted : (op : Held) (s : State) → admitted op s ≡ record s { ids = (admitted op s).ids }
+others-admitted (held.RuleCreated rule table) s = refl
+others-admitted (held.RuleDestroyed id) s = refl
+others-admitted (held.SharedCreated id value) s = refl
+others-admitted (held.SharedUpdated id value) s = refl
+others-admitted (held.SharedDestroyed id) s = refl
+
 pub queues-admitted : (op : Held) (s : State) → (admitted op s).queues ≡ s.queues
-queues-admitted (held.RuleCreated rule table) s = refl
-queues-admitted (held.RuleDestroyed id) s = refl
-queues-admitted (held.SharedCreated id value) s = refl
-queues-admitted (held.SharedUpdated id value) s = refl
-queues-admitted (held.SharedDestroyed id) s = refl
+queues-admitted op s = ap (λ (t : State). t.queues) (others-admitted op s)
 
 abbrev pub queue_with : ℕ → State → Held → FlowQueue
 queue_with q s op = record { held = (queue_at q s).held ++ op ∷ []; results = (queue_at q s).results }

@@ -3,9 +3,10 @@
 use Rattle.std.specs.Prelude.{◌≡◌, ℕ, ◌+◌, ◌<◌, ◌≤◌, Bool, true, false, nat_eq, is_some, count_by, All, List, None, if◌then◌else◌}
 use Rattle.flow_rules.specs.Changes.{has_id}
 use Rattle.flow_rules.specs.Shared.{shared_at, IsSharedOn}
+use Rattle.indirect_counters.specs.Refusals as shared_calls
 use Rattle.port_state.specs.declared.held.Held.{Held}
 use Rattle.port_state.specs.declared.held.Held.TheVariants as held
-use Rattle.port_state.specs.State.{Placed, State, all_held, queued_update_fault}
+use Rattle.port_state.specs.State.{Placed, State, all_held}
 
 -- a rule of an id, in effect or as its creation is held
 abbrev pub is_rule : ℕ → Placed → Bool
@@ -35,7 +36,7 @@ IsHeldBelow ids _ = Unit {0}
 -- a value that is held for a shared action was taken as it was enqueued
 abbrev pub IsFit : ℕ → Held → Type 0
 IsFit rxq (held.SharedCreated id value) = IsSharedOn rxq value
-IsFit rxq (held.SharedUpdated id value) = queued_update_fault rxq value ≡ None
+IsFit rxq (held.SharedUpdated id value) = shared_calls.queued_update_fault rxq value ≡ None
 IsFit rxq _ = Unit {0}
 
 -- no id stands twice among rules in effect and held ones

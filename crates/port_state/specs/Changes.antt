@@ -15,7 +15,7 @@ use Rattle.object_ids.specs.Ids.{id_for}
 use Rattle.indirect_counters.specs.Refusals as shared_calls
 use Rattle.port_state.specs.declared.held.Held.{Held}
 use Rattle.port_state.specs.declared.held.Held.TheVariants as held
-use Rattle.port_state.specs.State.{State, opening, flows_of, objects, create_fault, is_in_effect, next_state, state_behind, first_of, succeeds, stepped, queue_at, waiting, queue_fault, full_fault, queued_update_fault, table_rule_fault, bound, if_bound, creation_held}
+use Rattle.port_state.specs.State.{State, opening, flows_of, objects, create_fault, is_in_effect, next_state, state_behind, first_of, succeeds, stepped, queue_at, waiting, queue_fault, full_fault, table_rule_fault, bound, if_bound, creation_held}
 
 abbrev pub change_unless_refused : Option Fault → Change → List Change
 change_unless_refused None change = change ∷ []
@@ -86,7 +86,7 @@ changes_by limits s (ops.QueueIndirectCreate q postpone id attr action) =
     unless_refused_changes (first_of (full_fault s q) (shared_calls.create_fault s.rxq (objects s) id attr action))
     (changes_enqueued q postpone (held.SharedCreated (id_for id (objects s)) action) s)
 changes_by limits s (ops.QueueIndirectUpdate q postpone id action) =
-    unless_refused_changes (first_of (full_fault s q) (queued_update_fault s.rxq action)) (changes_enqueued q postpone (held.SharedUpdated id action) s)
+    unless_refused_changes (first_of (full_fault s q) (shared_calls.queued_update_fault s.rxq action)) (changes_enqueued q postpone (held.SharedUpdated id action) s)
 changes_by limits s (ops.QueueIndirectDestroy q postpone id) = unless_refused_changes (full_fault s q) (changes_enqueued q postpone (held.SharedDestroyed id) s)
 changes_by limits s (ops.Push q) = unless_refused_changes (queue_fault s q) (changes_pushed q s)
 changes_by limits s (ops.Pull q) = []

@@ -20,7 +20,7 @@ use Rattle.port_state.specs.declared.effect.QueueEffect.TheVariants as queues
 use Rattle.port_state.specs.declared.held.Held.{Held}
 use Rattle.port_state.specs.declared.held.Held.TheVariants as held
 use Rattle.port_state.specs.Changes.{changes_enqueued, changes_pushed}
-use Rattle.port_state.specs.State.{State, is_in_effect, objects, created, destroyed, flushed, isolated, shared_set, shared_gone, templates_in, with_templates, queue_at, queue_fault, full_fault, queued_update_fault, configure_refusals, configured, enqueued, pushed, pulled}
+use Rattle.port_state.specs.State.{State, is_in_effect, objects, created, destroyed, flushed, isolated, shared_set, shared_gone, templates_in, with_templates, queue_at, queue_fault, full_fault, configure_refusals, configured, enqueued, pushed, pulled}
 use Rattle.port_state.specs.Tables.{Templates, pattern_made, actions_made, table_made, pattern_gone, actions_gone, table_gone}
 
 abbrev pub rules_done : State → RuleEffect → State
@@ -113,7 +113,7 @@ abbrev pub CanHold : State → Held → Type 0
 CanHold s (held.RuleCreated rule table) =
     (rule.id ≡ s.ids) × (s.ids < 2 ^ 32 - 1) × IsSome (table_of table (templates_in s)) × (first (slot_refusals (table_of table (templates_in s))) ≡ None)
 CanHold s (held.SharedCreated id value) = CanAdd id value (objects s) × IsSharedOn s.rxq value
-CanHold s (held.SharedUpdated id value) = queued_update_fault s.rxq value ≡ None
+CanHold s (held.SharedUpdated id value) = shared_calls.queued_update_fault s.rxq value ≡ None
 CanHold s _ = Unit {0}
 
 abbrev pub AreQueuesDue : State → QueueEffect → Type 0

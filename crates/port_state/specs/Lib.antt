@@ -16,3 +16,4 @@ pub mod Standing
 pub mod State
 pub mod StateInside
 pub mod Tables
+pub mod TemplateCalls

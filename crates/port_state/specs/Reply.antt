@@ -21,7 +21,7 @@ use Rattle.object_ids.specs.Ids.{id_for}
 use Rattle.indirect_counters.specs.Refusals as shared_calls
 use Rattle.template_tables.specs.Refusals.{pattern_refusals, actions_refusals, table_refusals, pattern_end_refusals, actions_end_refusals, table_end_refusals}
 use Rattle.flow_calls.specs.declared.rows.ListRow.{ListRow}
-use Rattle.port_state.specs.State.{Placed, first_of, configure_refusals, full_fault, queue_fault, queued_update_fault, table_rule_fault, queue_at, create_fault, is_in_effect, objects, kinds_in, plain, rule_in, templates_in}
+use Rattle.port_state.specs.State.{Placed, first_of, configure_refusals, full_fault, queue_fault, table_rule_fault, queue_at, create_fault, is_in_effect, objects, kinds_in, plain, rule_in, templates_in}
 use Rattle.port_state.specs.Standing.{Standing, standing_of}
 use Rattle.flow_calls.specs.Rows.{row_of}
 
@@ -83,7 +83,7 @@ answer_of limits at (ops.QueueIndirectCreate q postpone id attr action) =
     unless (first_of (full_fault at.state q) (shared_calls.create_fault at.state.rxq (objects at.state) id attr action))
     (replies.Enqueued kinds.IndirectCreate (id_for id (objects at.state)))
 answer_of limits at (ops.QueueIndirectUpdate q postpone id action) =
-    unless (first_of (full_fault at.state q) (queued_update_fault at.state.rxq action)) (replies.Enqueued kinds.IndirectUpdate id)
+    unless (first_of (full_fault at.state q) (shared_calls.queued_update_fault at.state.rxq action)) (replies.Enqueued kinds.IndirectUpdate id)
 answer_of limits at (ops.QueueIndirectDestroy q postpone id) = unless (full_fault at.state q) (replies.Enqueued kinds.IndirectDestroy id)
 answer_of limits at (ops.Push q) = unless (queue_fault at.state q) (replies.Pushed q)
 answer_of limits at (ops.Pull q) = unless (queue_fault at.state q) (replies.Pulled q (queue_at q at.state).results)

@@ -8,8 +8,8 @@ use Rattle.flow_rules.specs.declared.fault.Fault.{Fault}
 use Rattle.flow_rules.specs.declared.fault.Cause.{Cause}
 use Rattle.flow_rules.specs.declared.fault.Cause.TheVariants as causes
 use Rattle.flow_actions.specs.declared.action.Action.{Action}
-use Rattle.flow_actions.specs.Kinds.{kind_of, is_shareable}
-use Rattle.flow_rules.specs.Faults.{Kinds, fault_if, is_bad, is_count, first, first_fault, rule_of, is_shared}
+use Rattle.flow_actions.specs.Kinds.{kind_of}
+use Rattle.flow_rules.specs.Faults.{Kinds, fault_if, first, first_fault, rule_of, is_shared}
 use Rattle.flow_rules.specs.Shared.{Shared, shared_at, with_shared, without_shared}
 use Rattle.flow_rules.specs.RuleView.{RuleView}
 use Rattle.flow_rules.specs.Walk.{Flows}
@@ -253,13 +253,6 @@ abbrev pub enqueued : ℕ → Bool → Held → State → State
 enqueued q true op s = waiting q op s
 enqueued q false op s = pushed q (waiting q op s)
 
--- a queued update is refused as it is enqueued for its value alone, on a port of so many Rx queues
-abbrev pub queued_update_fault : ℕ → Action → Option Fault
-queued_update_fault rxq value =
-    first (fault_if (not (is_shareable (kind_of value))) causes.KindNotIndirect 0
-    ++ (fault_if (is_count value) causes.CannotUpdate 0
-    ++ fault_if (is_bad rxq 0 value) causes.ActionConf 0))
-
 -- so many queues, all empty
 abbrev pub configured : ℕ → ℕ → State → State
 configured queues size s = record s { queues = replicate queues empty_queue; queue_size = size }
@@ -333,7 +326,7 @@ next_state limits s (ops.QueueIndirectCreate q postpone id attr action) =
     unless_refused (first_of (full_fault s q) (shared_calls.create_fault s.rxq (objects s) id attr action))
     (enqueued q postpone (held.SharedCreated (id_for id (objects s)) action) s) s
 next_state limits s (ops.QueueIndirectUpdate q postpone id action) =
-    unless_refused (first_of (full_fault s q) (queued_update_fault s.rxq action)) (enqueued q postpone (held.SharedUpdated id action) s) s
+    unless_refused (first_of (full_fault s q) (shared_calls.queued_update_fault s.rxq action)) (enqueued q postpone (held.SharedUpdated id action) s) s
 next_state limits s (ops.QueueIndirectDestroy q postpone id) = unless_refused (full_fault s q) (enqueued q postpone (held.SharedDestroyed id) s) s
 next_state limits s (ops.Push q) = unless_refused (queue_fault s q) (pushed q s) s
 next_state limits s (ops.Pull q) = unless_refused (queue_fault s q) (pulled q s) s

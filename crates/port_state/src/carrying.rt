@@ -1,7 +1,7 @@
 //! What calls do to a state.
 ghost use Rattle.std.specs.Prelude.{◌≡◌, ℕ, ◌+◌, ◌<◌, ◌≤◌, ◌^◌, ◌-◌, ◌∷◌, [], ◌++◌, true, Some, List, length, map, count_by, None, OnOk, OnErr, IsSome};
 ghost use Rattle.flow_rules.specs.declared.counter.Counter.{Counter};
-ghost use Rattle.flow_rules.specs.Changes.{changed};
+ghost use Rattle.flow_rules.specs.declared.change.Change.TheVariants as seen;
 ghost use Rattle.flow_rules.specs.Naming.{rule_at};
 ghost use Rattle.flow_rules.specs.Shared.{IsSharedOn};
 ghost use Rattle.indirect_counters.specs.Entries.{created as created_shared, entry_at, in_effect_at};
@@ -81,36 +81,13 @@ impl State {
         // The list tells that no id stands twice.
         let _number = self.shared.len();
         match effect {
-            RuleEffect::Created(rule, told) => {
-                // The rule tells that it has at most 16 actions.
-                let _actions = told.get().actions();
-                self.create(rule);
-                Change::Added(told)
-            }
-            RuleEffect::Destroyed(id) => {
-                self.destroy(id);
-                Change::Removed(id)
-            }
-            RuleEffect::Flushed => {
-                self.flush();
-                Change::Flushed
-            }
-            RuleEffect::Isolated(on) => {
-                self.isolate(on);
-                Change::Isolated(on)
-            }
-            RuleEffect::SharedCreated(id, action) => {
-                self.share(id, &action);
-                Change::IndirectSet(id as u32, action)
-            }
-            RuleEffect::SharedUpdated(id, action) => {
-                self.replace(limits, id, &action);
-                Change::IndirectSet(id as u32, action)
-            }
-            RuleEffect::SharedDestroyed(id) => {
-                self.unshare(id);
-                Change::IndirectGone(id as u32)
-            }
+            RuleEffect::Created(rule, told) => self.create(rule, told),
+            RuleEffect::Destroyed(id) => self.destroy(id),
+            RuleEffect::Flushed => self.flush(),
+            RuleEffect::Isolated(on) => self.isolate(on),
+            RuleEffect::SharedCreated(id, action) => self.share(id, action),
+            RuleEffect::SharedUpdated(id, action) => self.replace(limits, id, action),
+            RuleEffect::SharedDestroyed(id) => self.unshare(id),
         }
     }
 
@@ -182,19 +159,24 @@ impl State {
         Ok(())
     }
 
-    /// A rule takes effect, behind all others, and an id is given.
-    fn create(&mut self, rule: Shared<Rule>)
+    /// A rule takes effect, behind all others, and an id is given. `told` is the same rule, for those who follow the changes.
+    fn create(&mut self, rule: Shared<Rule>, told: Shared<Rule>) -> Change
         requires room { 1 ≤ self.old.room }
         requires numbers { (state_in self.old).ids < 2 ^ 32 - 1 }
         requires fresh { rule_at rule.id (map rule_in (state_in self.old).rules) ≡ None }
+        ensures change { result ≡ seen.Added told }
+        ensures few { length told.actions ≤ 16 }
         ensures state { (state_in self.new) ≡ created rule (state_in self.old) }
         ensures counts { (c : Counter) → count_in self.new c ≡ while_there (is_there c (flows_of (state_in self.new))) (count_in self.old c) }
         ensures kept { AreKept self.old → AreKept self.new }
     {
         // The list tells that no id stands twice.
         let _number = self.shared.len();
+        // The rule tells that it has at most 16 actions.
+        let _actions = told.get().actions();
         self.rules.push(rule, None);
         self.ids += 1;
+        Change::Added(told)
     }
 
     /// A rule that a queue held takes effect in its table, behind all others; the answer is the same rule for those who follow the changes.
@@ -220,7 +202,8 @@ impl State {
     }
 
     /// The rule of this id goes, and its slot is free, if it has one.
-    pub(crate) fn destroy(&mut self, id: u32)
+    pub(crate) fn destroy(&mut self, id: u32) -> Change
+        ensures change { result ≡ seen.Removed id }
         ensures state { (state_in self.new) ≡ destroyed id (state_in self.old) }
         ensures counts { (c : Counter) → count_in self.new c ≡ while_there (is_there c (flows_of (state_in self.new))) (count_in self.old c) }
         ensures room { self.old.room ≤ self.new.room }
@@ -232,10 +215,12 @@ impl State {
         let _rules = self.rules.len();
         let gone = self.rules.remove(id);
         free_slot_of(&mut self.templates, gone);
+        Change::Removed(id)
     }
 
     /// All rules go, and their slots are free. Creations that are held stay.
-    fn flush(&mut self)
+    fn flush(&mut self) -> Change
+        ensures change { result ≡ seen.Flushed }
         ensures state { (state_in self.new) ≡ flushed (state_in self.old) }
         ensures counts { (c : Counter) → count_in self.new c ≡ while_there (is_there c (flows_of (state_in self.new))) (count_in self.old c) }
         ensures kept { (others : List Held) → AreOthers (state_in self.old).rules others → AreKeptFor self.old.ids self.old.templates self.old.shared others
@@ -245,10 +230,12 @@ impl State {
         let _number = self.shared.len();
         let _rules = self.rules.len();
         clear_rules(&mut self.rules, &mut self.templates);
+        Change::Flushed
     }
 
     /// Whether frames that no rule takes are dropped.
-    fn isolate(&mut self, on: bool)
+    fn isolate(&mut self, on: bool) -> Change
+        ensures change { result ≡ seen.Isolated on }
         ensures state { (state_in self.new) ≡ isolated on (state_in self.old) }
         ensures counts { (c : Counter) → count_in self.new c ≡ while_there (is_there c (flows_of (state_in self.new))) (count_in self.old c) }
         ensures kept { AreKept self.old → AreKept self.new }
@@ -256,45 +243,50 @@ impl State {
         // The list tells that no id stands twice.
         let _number = self.shared.len();
         self.isolated = on;
+        Change::Isolated(on)
     }
 
     /// An action that rules can share takes effect.
-    fn share(&mut self, id: u16, action: &Action)
+    fn share(&mut self, id: u16, action: Action) -> Change
         requires room { 1 ≤ self.old.shared_room }
-        requires free { CanAdd id action.now self.old.shared }
-        requires lawful { IsSharedOn (state_in self.old).rxq action.now }
-        ensures state { (state_in self.new) ≡ shared_set id action.now (state_in self.old) }
+        requires free { CanAdd id action self.old.shared }
+        requires lawful { IsSharedOn (state_in self.old).rxq action }
+        ensures change { result ≡ seen.IndirectSet id action }
+        ensures state { (state_in self.new) ≡ shared_set id action (state_in self.old) }
         ensures counts { (c : Counter) → count_in self.new c ≡ while_there (is_there c (flows_of (state_in self.new))) (count_in self.old c) }
         ensures kept { AreKept self.old → AreKept self.new }
     {
         // The list tells that no id stands twice, before and behind.
         let _before = self.shared.len();
-        self.shared.add(id, action, false);
+        self.shared.add(id, &action, false);
         let _behind = self.shared.len();
+        Change::IndirectSet(id as u32, action)
     }
 
     /// A shared action whose creation a queue held takes effect.
-    pub(crate) fn activate(&mut self, id: u16, action: &Action)
-        requires held { entry_at id self.old.shared ≡ Some (created_shared action.now true) }
-        ensures state { (state_in self.new) ≡ shared_set id action.now (state_in self.old) }
+    pub(crate) fn activate(&mut self, id: u16, action: Action) -> Change
+        requires held { entry_at id self.old.shared ≡ Some (created_shared action true) }
+        ensures change { result ≡ seen.IndirectSet id action }
+        ensures state { (state_in self.new) ≡ shared_set id action (state_in self.old) }
         ensures counts { (c : Counter) → count_in self.new c ≡ while_there (is_there c (flows_of (state_in self.new))) (count_in self.old c) }
         ensures room { self.old.room ≤ self.new.room }
         ensures kept { (others : List Held) → count_by (is_held_shared id) others ≡ 0
-            → AreKeptFor self.old.ids self.old.templates self.old.shared (held.SharedCreated id action.now ∷ others)
+            → AreKeptFor self.old.ids self.old.templates self.old.shared (held.SharedCreated id action ∷ others)
             → AreKeptFor self.new.ids self.new.templates self.new.shared others }
     {
         // The list tells that no id stands twice, before and behind.
         let _before = self.shared.len();
-        let _value = action;
         self.shared.activate(id);
         let _behind = self.shared.len();
+        Change::IndirectSet(id as u32, action)
     }
 
     /// A shared action has this value from here on.
-    pub(crate) fn replace(&mut self, limits: &Limits, id: u16, action: &Action)
+    pub(crate) fn replace(&mut self, limits: &Limits, id: u16, action: Action) -> Change
         requires port { limits.now.rxq ≡ (state_in self.old).rxq }
-        requires due { shared_calls.update_fault self.old.rxq self.old.shared id action.now ≡ None }
-        ensures state { (state_in self.new) ≡ shared_set id action.now (state_in self.old) }
+        requires due { shared_calls.update_fault self.old.rxq self.old.shared id action ≡ None }
+        ensures change { result ≡ seen.IndirectSet id action }
+        ensures state { (state_in self.new) ≡ shared_set id action (state_in self.old) }
         ensures counts { (c : Counter) → count_in self.new c ≡ while_there (is_there c (flows_of (state_in self.new))) (count_in self.old c) }
         ensures room { self.old.room ≤ self.new.room }
         ensures kept { (others : List Held) → count_by (is_held_shared id) others ≡ 0 → AreKeptFor self.old.ids self.old.templates self.old.shared others
@@ -302,13 +294,15 @@ impl State {
     {
         // The list tells that no id stands twice, before and behind.
         let _before = self.shared.len();
-        let _ = self.shared.update(id, action, limits);
+        let _ = self.shared.update(id, &action, limits);
         let _behind = self.shared.len();
+        Change::IndirectSet(id as u32, action)
     }
 
     /// A shared action goes.
-    pub(crate) fn unshare(&mut self, id: u16)
+    pub(crate) fn unshare(&mut self, id: u16) -> Change
         requires there { IsSome (in_effect_at id self.old.shared) }
+        ensures change { result ≡ seen.IndirectGone id }
         ensures state { (state_in self.new) ≡ shared_gone id (state_in self.old) }
         ensures counts { (c : Counter) → count_in self.new c ≡ while_there (is_there c (flows_of (state_in self.new))) (count_in self.old c) }
         ensures room { self.old.room ≤ self.new.room }
@@ -319,6 +313,7 @@ impl State {
         let _before = self.shared.len();
         self.shared.remove(id);
         let _behind = self.shared.len();
+        Change::IndirectGone(id as u32)
     }
 }
 

@@ -17,19 +17,17 @@ ghost use Rattle.port_state.specs.declared.effect.Effect.TheVariants as effects;
 ghost use Rattle.port_state.specs.declared.effect.RuleEffect.TheVariants as rules;
 ghost use Rattle.flow_calls.specs.declared.reply.Reply.TheVariants as replies;
 
-use crate::effect::{Effect, RuleEffect};
+use crate::effect::{Effect, RuleEffect, TemplateEffect};
+use crate::held::Held;
 use crate::queue_calls::{
-    QueuePlace, configured, pulled, pushed, rule_end_held, rule_held, shared_end_held, shared_held,
+    QueuePlace, configured, held_unless_full, pulled, pushed, rule_held, shared_held,
     shared_update_held,
 };
 use crate::standing::Standing;
 use crate::state::{State, plain};
-use crate::template_calls::{
-    actions_created, actions_destroyed, pattern_created, pattern_destroyed, table_created,
-    table_destroyed,
-};
+use crate::template_calls::templates_called;
 use flow_actions::Action;
-use flow_calls::{Op, Reply};
+use flow_calls::{Op, OpKind, Reply};
 use flow_rules::{Attr, Cause, Fault, Limits, Rule, RuleSpec, validate};
 use shared_value::Shared;
 use std::alloc::{AllocError, Global};
@@ -55,42 +53,67 @@ pub fn judge(
     ensures due { IfOk result (λ j. IsDue (state_in standing.now.state) j.effect) }
     ensures changes { IfOk result (λ j. changes_done (state_in standing.now.state) j.effect ≡ changes_by limits.now (state_in standing.now.state) op.now) }
 {
+    let state = &standing.state;
     match op {
-        Op::Validate(spec) => Ok(replies(validated(limits, &standing.state, spec.get()))),
-        Op::Create(spec) => created(alloc, limits, &standing.state, spec.get()),
-        Op::Destroy(id) => Ok(destroyed(&standing.state, *id)),
+        Op::Validate(spec) => Ok(replies(validated(limits, state, spec.get()))),
+        Op::Create(spec) => created(alloc, limits, state, spec.get()),
+        Op::Destroy(id) => Ok(destroyed(state, *id)),
         Op::Flush => Ok(changes_rules(Reply::Flushed, RuleEffect::Flushed)),
-        Op::Query(id) => Ok(replies(standing.state.query(*id))),
-        Op::List => Ok(replies(Reply::Listed(standing.state.list(alloc)?))),
+        Op::Query(id) => Ok(replies(state.query(*id))),
+        Op::List => Ok(replies(Reply::Listed(state.list(alloc)?))),
         Op::Isolate(on) => Ok(changes_rules(Reply::Isolated(*on), RuleEffect::Isolated(*on))),
         Op::IndirectCreate { id, attr, action } => Ok(shared_created(
             limits,
-            &standing.state,
+            state,
             *id,
             attr,
             action.get(),
         )),
         Op::IndirectUpdate { id, action } => {
-            Ok(shared_updated(limits, &standing.state, *id, action.get()))
+            Ok(shared_updated(limits, state, *id, action.get()))
         }
-        Op::IndirectDestroy(id) => Ok(shared_destroyed(&standing.state, *id)),
-        Op::IndirectQuery(id) => Ok(replies(standing.state.query_shared(*id))),
+        Op::IndirectDestroy(id) => Ok(shared_destroyed(state, *id)),
+        Op::IndirectQuery(id) => Ok(replies(state.query_shared(*id))),
         Op::PatternTemplateCreate { id, attr, pattern } => {
-            pattern_created(&standing.state, *id, attr, pattern)
+            let effect = TemplateEffect::PatternMade {
+                id: *id,
+                attr: *attr,
+                pattern: pattern.clone()?,
+            };
+            Ok(templates_called(state, effect))
         }
-        Op::PatternTemplateDestroy(id) => Ok(pattern_destroyed(&standing.state, *id)),
+        Op::PatternTemplateDestroy(id) => Ok(templates_called(
+            state,
+            TemplateEffect::PatternGone(*id),
+        )),
         Op::ActionsTemplateCreate { id, attr, lists } => {
-            actions_created(&standing.state, *id, attr, lists)
+            let effect = TemplateEffect::ActionsMade {
+                id: *id,
+                attr: *attr,
+                lists: lists.clone()?,
+            };
+            Ok(templates_called(state, effect))
         }
-        Op::ActionsTemplateDestroy(id) => Ok(actions_destroyed(&standing.state, *id)),
+        Op::ActionsTemplateDestroy(id) => Ok(templates_called(
+            state,
+            TemplateEffect::ActionsGone(*id),
+        )),
         Op::TableCreate {
             id,
             attr,
             rules_number,
             templates,
-        } => table_created(&standing.state, *id, attr, *rules_number, templates),
-        Op::TableDestroy(id) => Ok(table_destroyed(&standing.state, *id)),
-        Op::Configure { queues, size } => Ok(configured(&standing.state, *queues, *size)),
+        } => {
+            let effect = TemplateEffect::TableMade {
+                id: *id,
+                attr: *attr,
+                rules_number: *rules_number,
+                templates: templates.clone()?,
+            };
+            Ok(templates_called(state, effect))
+        }
+        Op::TableDestroy(id) => Ok(templates_called(state, TemplateEffect::TableGone(*id))),
+        Op::Configure { queues, size } => Ok(configured(state, *queues, *size)),
         Op::QueueCreate {
             queue,
             postpone,
@@ -100,16 +123,7 @@ pub fn judge(
             lists,
         } => {
             let place = QueuePlace::new(*queue, *postpone);
-            rule_held(
-                alloc,
-                limits,
-                &standing.state,
-                place,
-                *table,
-                *pt,
-                *act,
-                lists.get(),
-            )
+            rule_held(alloc, limits, state, place, *table, *pt, *act, lists.get())
         }
         Op::QueueDestroy {
             queue,
@@ -117,7 +131,8 @@ pub fn judge(
             rule,
         } => {
             let place = QueuePlace::new(*queue, *postpone);
-            Ok(rule_end_held(&standing.state, place, *rule))
+            let op = Held::RuleDestroyed(*rule);
+            Ok(held_unless_full(state, place, OpKind::RuleDestroy, *rule, op))
         }
         Op::QueueIndirectCreate {
             queue,
@@ -127,7 +142,7 @@ pub fn judge(
             action,
         } => {
             let place = QueuePlace::new(*queue, *postpone);
-            Ok(shared_held(limits, &standing.state, place, *id, attr, action.get()))
+            Ok(shared_held(limits, state, place, *id, attr, action.get()))
         }
         Op::QueueIndirectUpdate {
             queue,
@@ -136,7 +151,7 @@ pub fn judge(
             action,
         } => {
             let place = QueuePlace::new(*queue, *postpone);
-            Ok(shared_update_held(limits, &standing.state, place, *id, action.get()))
+            Ok(shared_update_held(limits, state, place, *id, action.get()))
         }
         Op::QueueIndirectDestroy {
             queue,
@@ -144,10 +159,11 @@ pub fn judge(
             id,
         } => {
             let place = QueuePlace::new(*queue, *postpone);
-            Ok(shared_end_held(&standing.state, place, *id))
+            let op = Held::SharedDestroyed(*id);
+            Ok(held_unless_full(state, place, OpKind::IndirectDestroy, *id as u32, op))
         }
-        Op::Push(queue) => Ok(pushed(&standing.state, *queue)),
-        Op::Pull(queue) => pulled(alloc, &standing.state, *queue),
+        Op::Push(queue) => Ok(pushed(state, *queue)),
+        Op::Pull(queue) => pulled(alloc, state, *queue),
         Op::Start(_) => Ok(replies(Reply::Started)),
         Op::Stop => Ok(replies(Reply::Stopped(Shared::new(alloc, standing.totals)?))),
         Op::Quit => Ok(replies(Reply::Bye)),

@@ -2,7 +2,6 @@
 ghost use Rattle.std.specs.Prelude.{◌≡◌, ◌+◌, ◌<◌, ◌≤◌, ◌∷◌, [], ◌++◌, List, All, drop, length, slice_set};
 ghost use Rattle.std.specs.List.{list_any};
 ghost use Rattle.flow_rules.specs.declared.counter.Counter.{Counter};
-ghost use Rattle.flow_rules.specs.Faults.{is_shared};
 ghost use Rattle.op_queues.specs.OpQueue.{Queue};
 ghost use Rattle.port_state.specs.declared.held.Held.{Held};
 ghost use Rattle.port_state.specs.Apart.{AreApart, IsAlone, IsFit};
@@ -16,8 +15,7 @@ ghost use Rattle.port_state.specs.State.{flows_of, is_held_user, is_table_rule_o
 use crate::change_list::ChangeList;
 use crate::held::Held;
 use crate::state::State;
-use flow_actions::Action;
-use flow_rules::{Change, Limits};
+use flow_rules::{Change, Limits, has_shared};
 use op_queues::OpQueue;
 
 impl State {
@@ -143,22 +141,10 @@ impl State {
     {
         let change = match op {
             Held::RuleCreated(rule, table) => Change::Added(self.take_rule(rule, table)),
-            Held::RuleDestroyed(id) => {
-                self.destroy(id);
-                Change::Removed(id)
-            }
-            Held::SharedCreated(id, action) => {
-                self.activate(id, &action);
-                Change::IndirectSet(id as u32, action)
-            }
-            Held::SharedUpdated(id, action) => {
-                self.replace(limits, id, &action);
-                Change::IndirectSet(id as u32, action)
-            }
-            Held::SharedDestroyed(id) => {
-                self.unshare(id);
-                Change::IndirectGone(id as u32)
-            }
+            Held::RuleDestroyed(id) => self.destroy(id),
+            Held::SharedCreated(id, action) => self.activate(id, action),
+            Held::SharedUpdated(id, action) => self.replace(limits, id, action),
+            Held::SharedDestroyed(id) => self.unshare(id),
         };
         changes.add(change);
     }
@@ -192,26 +178,10 @@ fn uses(op: &Held, id: u16) -> bool
     ensures { result ≡ is_held_user id op.now }
 {
     match op {
-        Held::RuleCreated(rule, _) => names(rule.get().actions().list.as_slice(), id as u32),
+        Held::RuleCreated(rule, _) => has_shared(id as u32, rule.get().actions().list.as_slice()),
         Held::RuleDestroyed(_)
         | Held::SharedCreated(..)
         | Held::SharedUpdated(..)
         | Held::SharedDestroyed(_) => false,
     }
-}
-
-/// Whether one of the actions is the shared one of this id.
-fn names(list: &[Action], id: u32) -> bool
-    ensures { result ≡ list_any (is_shared id) list.now }
-{
-    list.iter().any(|action| is_shared(action, id))
-}
-
-fn is_shared(action: &Action, id: u32) -> bool
-    ensures { result ≡ is_shared id action.now }
-{
-    let Action::Indirect(other) = action else {
-        return false;
-    };
-    *other == id
 }

@@ -1,18 +1,17 @@
 //! What the calls on flow queues come to.
 ghost use Rattle.std.specs.Prelude.{◌≡◌, [], None, IfOk};
-ghost use Rattle.flow_rules.specs.declared.limits.Limits.{Limits};
 ghost use Rattle.flow_rules.specs.Faults.{first};
 ghost use Rattle.object_ids.specs.Ids.{id_for};
 ghost use Rattle.indirect_counters.specs.Refusals as shared_calls;
 ghost use Rattle.flow_calls.specs.declared.call.Op.TheVariants as ops;
 ghost use Rattle.flow_calls.specs.declared.reply.OpKind.TheVariants as kinds;
 ghost use Rattle.flow_calls.specs.declared.reply.Reply.TheVariants as replies;
-ghost use Rattle.port_state.specs.Changes.{changes_by, changes_enqueued, unless_refused_changes};
+ghost use Rattle.port_state.specs.Changes.{changes_by, changes_enqueued, changes_pushed, unless_refused_changes};
 ghost use Rattle.port_state.specs.Effect.{CanHold, changes_done, done, IsDue};
 ghost use Rattle.port_state.specs.Kept.{AreKept};
 ghost use Rattle.port_state.specs.KeptState.{state_in};
 ghost use Rattle.port_state.specs.Reply.{unless};
-ghost use Rattle.port_state.specs.State.{configure_refusals, enqueued, first_of, full_fault, next_state, objects, queue_at, queue_fault, queued_update_fault, table_rule_fault, unless_refused};
+ghost use Rattle.port_state.specs.State.{configure_refusals, configured, enqueued, first_of, full_fault, next_state, objects, pulled, pushed, queue_at, queue_fault, table_rule_fault, unless_refused};
 ghost use Rattle.port_state.specs.declared.effect.Effect.TheVariants as effects;
 ghost use Rattle.port_state.specs.declared.effect.QueueEffect.TheVariants as queues;
 ghost use Rattle.port_state.specs.declared.held.Held.TheVariants as operations;
@@ -73,10 +72,33 @@ fn held(state: &State, place: QueuePlace, kind: OpKind, id: u32, op: Held) -> Ju
     )
 }
 
+/// What holding an operation comes to that is refused where its queue is full, and for nothing else.
+pub(crate) fn held_unless_full(
+    state: &State,
+    place: QueuePlace,
+    kind: OpKind,
+    id: u32,
+    op: Held,
+) -> Judged
+    requires { CanHold (state_in state.now) op }
+    ensures reply { result.reply ≡ unless (full_fault (state_in state.now) place.queue) (replies.Enqueued kind id) }
+    ensures effect { done (state_in state.now) result.effect
+        ≡ unless_refused (full_fault (state_in state.now) place.queue) (enqueued place.queue place.postpone op (state_in state.now)) (state_in state.now) }
+    ensures due { IsDue (state_in state.now) result.effect }
+    ensures changes { changes_done (state_in state.now) result.effect
+        ≡ unless_refused_changes (full_fault (state_in state.now) place.queue) (changes_enqueued place.queue place.postpone op (state_in state.now)) }
+{
+    match state.full_fault(place.queue) {
+        Some(fault) => refuses(fault),
+        None => held(state, place, kind, id, op),
+    }
+}
+
 /// What configuring flow queues comes to.
 pub(crate) fn configured(state: &State, number: u32, size: u32) -> Judged
     ensures reply { result.reply ≡ unless (first (configure_refusals (state_in state.now) number size)) (replies.Configured number size) }
-    ensures effect { (limits : Limits) → done (state_in state.now) result.effect ≡ next_state limits (state_in state.now) (ops.Configure number size) }
+    ensures effect { done (state_in state.now) result.effect
+        ≡ unless_refused (first (configure_refusals (state_in state.now) number size)) (configured number size (state_in state.now)) (state_in state.now) }
     ensures due { IsDue (state_in state.now) result.effect }
     ensures changes { changes_done (state_in state.now) result.effect ≡ [] }
 {
@@ -140,25 +162,6 @@ fn creation_held(
     Ok(held(state, place, OpKind::RuleCreate, id, op))
 }
 
-/// What holding the end of a table rule comes to.
-pub(crate) fn rule_end_held(state: &State, place: QueuePlace, rule: u32) -> Judged
-    ensures reply { result.reply ≡ unless (full_fault (state_in state.now) place.queue) (replies.Enqueued kinds.RuleDestroy rule) }
-    ensures effect { (limits : Limits) → done (state_in state.now) result.effect ≡ next_state limits (state_in state.now) (ops.QueueDestroy place.queue place.postpone rule) }
-    ensures due { IsDue (state_in state.now) result.effect }
-    ensures changes { (limits : Limits) → changes_done (state_in state.now) result.effect ≡ changes_by limits (state_in state.now) (ops.QueueDestroy place.queue place.postpone rule) }
-{
-    match state.full_fault(place.queue) {
-        Some(fault) => refuses(fault),
-        None => held(
-            state,
-            place,
-            OpKind::RuleDestroy,
-            rule,
-            Held::RuleDestroyed(rule),
-        ),
-    }
-}
-
 /// What holding the creation of a shared action comes to.
 pub(crate) fn shared_held(
     limits: &Limits,
@@ -173,11 +176,13 @@ pub(crate) fn shared_held(
     ensures reply { result.reply
         ≡ unless (first_of (full_fault (state_in state.now) place.queue) (shared_calls.create_fault (state_in state.now).rxq (objects (state_in state.now)) id attr.now action.now))
         (replies.Enqueued kinds.IndirectCreate (id_for id (objects (state_in state.now)))) }
-    ensures effect { (l : Limits) → done (state_in state.now) result.effect
-        ≡ next_state l (state_in state.now) (ops.QueueIndirectCreate place.queue place.postpone id attr.now action.now) }
+    ensures effect { done (state_in state.now) result.effect
+        ≡ unless_refused (first_of (full_fault (state_in state.now) place.queue) (shared_calls.create_fault (state_in state.now).rxq (objects (state_in state.now)) id attr.now action.now))
+        (enqueued place.queue place.postpone (operations.SharedCreated (id_for id (objects (state_in state.now))) action.now) (state_in state.now)) (state_in state.now) }
     ensures due { IsDue (state_in state.now) result.effect }
-    ensures changes { (l : Limits) → changes_done (state_in state.now) result.effect
-        ≡ changes_by l (state_in state.now) (ops.QueueIndirectCreate place.queue place.postpone id attr.now action.now) }
+    ensures changes { changes_done (state_in state.now) result.effect
+        ≡ unless_refused_changes (first_of (full_fault (state_in state.now) place.queue) (shared_calls.create_fault (state_in state.now).rxq (objects (state_in state.now)) id attr.now action.now))
+        (changes_enqueued place.queue place.postpone (operations.SharedCreated (id_for id (objects (state_in state.now))) action.now) (state_in state.now)) }
 {
     if let Some(fault) = state.full_fault(place.queue) {
         return refuses(fault);
@@ -205,12 +210,14 @@ pub(crate) fn shared_update_held(
 ) -> Judged
     requires port { limits.now.rxq ≡ (state_in state.now).rxq }
     ensures reply { result.reply
-        ≡ unless (first_of (full_fault (state_in state.now) place.queue) (queued_update_fault (state_in state.now).rxq action.now)) (replies.Enqueued kinds.IndirectUpdate id) }
-    ensures effect { (l : Limits) → done (state_in state.now) result.effect
-        ≡ next_state l (state_in state.now) (ops.QueueIndirectUpdate place.queue place.postpone id action.now) }
+        ≡ unless (first_of (full_fault (state_in state.now) place.queue) (shared_calls.queued_update_fault (state_in state.now).rxq action.now)) (replies.Enqueued kinds.IndirectUpdate id) }
+    ensures effect { done (state_in state.now) result.effect
+        ≡ unless_refused (first_of (full_fault (state_in state.now) place.queue) (shared_calls.queued_update_fault (state_in state.now).rxq action.now))
+        (enqueued place.queue place.postpone (operations.SharedUpdated id action.now) (state_in state.now)) (state_in state.now) }
     ensures due { IsDue (state_in state.now) result.effect }
-    ensures changes { (l : Limits) → changes_done (state_in state.now) result.effect
-        ≡ changes_by l (state_in state.now) (ops.QueueIndirectUpdate place.queue place.postpone id action.now) }
+    ensures changes { changes_done (state_in state.now) result.effect
+        ≡ unless_refused_changes (first_of (full_fault (state_in state.now) place.queue) (shared_calls.queued_update_fault (state_in state.now).rxq action.now))
+        (changes_enqueued place.queue place.postpone (operations.SharedUpdated id action.now) (state_in state.now)) }
 {
     if let Some(fault) = state.full_fault(place.queue) {
         return refuses(fault);
@@ -227,32 +234,12 @@ pub(crate) fn shared_update_held(
     }
 }
 
-/// What holding the end of a shared action comes to.
-pub(crate) fn shared_end_held(state: &State, place: QueuePlace, id: u16) -> Judged
-    ensures reply { result.reply ≡ unless (full_fault (state_in state.now) place.queue) (replies.Enqueued kinds.IndirectDestroy id) }
-    ensures effect { (limits : Limits) → done (state_in state.now) result.effect ≡ next_state limits (state_in state.now) (ops.QueueIndirectDestroy place.queue place.postpone id) }
-    ensures due { IsDue (state_in state.now) result.effect }
-    ensures changes { (limits : Limits) → changes_done (state_in state.now) result.effect
-        ≡ changes_by limits (state_in state.now) (ops.QueueIndirectDestroy place.queue place.postpone id) }
-{
-    match state.full_fault(place.queue) {
-        Some(fault) => refuses(fault),
-        None => held(
-            state,
-            place,
-            OpKind::IndirectDestroy,
-            id as u32,
-            Held::SharedDestroyed(id),
-        ),
-    }
-}
-
 /// What a push comes to.
 pub(crate) fn pushed(state: &State, queue: u16) -> Judged
     ensures reply { result.reply ≡ unless (queue_fault (state_in state.now) queue) (replies.Pushed queue) }
-    ensures effect { (limits : Limits) → done (state_in state.now) result.effect ≡ next_state limits (state_in state.now) (ops.Push queue) }
+    ensures effect { done (state_in state.now) result.effect ≡ unless_refused (queue_fault (state_in state.now) queue) (pushed queue (state_in state.now)) (state_in state.now) }
     ensures due { IsDue (state_in state.now) result.effect }
-    ensures changes { (limits : Limits) → changes_done (state_in state.now) result.effect ≡ changes_by limits (state_in state.now) (ops.Push queue) }
+    ensures changes { changes_done (state_in state.now) result.effect ≡ unless_refused_changes (queue_fault (state_in state.now) queue) (changes_pushed queue (state_in state.now)) }
 {
     match state.queue_fault(queue) {
         Some(fault) => refuses(fault),
@@ -263,7 +250,7 @@ pub(crate) fn pushed(state: &State, queue: u16) -> Judged
 /// What a pull comes to.
 pub(crate) fn pulled(alloc: Global, state: &State, queue: u16) -> Result<Judged, AllocError>
     ensures reply { IfOk result (λ j. j.reply ≡ unless (queue_fault (state_in state.now) queue) (replies.Pulled queue (queue_at queue (state_in state.now)).results)) }
-    ensures effect { IfOk result (λ j. (limits : Limits) → done (state_in state.now) j.effect ≡ next_state limits (state_in state.now) (ops.Pull queue)) }
+    ensures effect { IfOk result (λ j. done (state_in state.now) j.effect ≡ unless_refused (queue_fault (state_in state.now) queue) (pulled queue (state_in state.now)) (state_in state.now)) }
     ensures due { IfOk result (λ j. IsDue (state_in state.now) j.effect) }
     ensures changes { IfOk result (λ j. changes_done (state_in state.now) j.effect ≡ []) }
 {

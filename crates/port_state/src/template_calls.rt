@@ -1,157 +1,75 @@
 //! What the calls on templates and tables come to.
-ghost use Rattle.std.specs.Prelude.{◌≡◌, [], IfOk, None};
+ghost use Rattle.std.specs.Prelude.{◌≡◌, []};
 ghost use Rattle.flow_rules.specs.Faults.{first};
-ghost use Rattle.object_ids.specs.Ids.{id_for};
-ghost use Rattle.template_tables.specs.Refusals.{pattern_refusals, actions_refusals, table_refusals, pattern_end_refusals, actions_end_refusals, table_end_refusals};
-ghost use Rattle.port_state.specs.State.{State as StateView, templates_in, with_templates, unless_refused};
-ghost use Rattle.port_state.specs.Tables.{pattern_made, actions_made, table_made, pattern_gone, actions_gone, table_gone};
+ghost use Rattle.port_state.specs.State.{with_templates, unless_refused};
 ghost use Rattle.port_state.specs.Kept.{AreKept};
 ghost use Rattle.port_state.specs.KeptState.{state_in};
-ghost use Rattle.port_state.specs.Effect.{AreTemplatesDue, changes_done, done, templates_done, IsDue};
+ghost use Rattle.port_state.specs.Effect.{changes_done, done, templates_done, IsDue};
 ghost use Rattle.port_state.specs.Reply.{unless};
-ghost use Rattle.flow_calls.specs.declared.reply.Reply.TheVariants as replies;
+ghost use Rattle.port_state.specs.TemplateCalls.{template_refusals, template_reply};
 
 use crate::effect::{Effect, TemplateEffect};
 use crate::outcome::{Judged, refuses};
 use crate::state::State;
-use flow_calls::{ActionLists, Reply, TableTemplates};
-use flow_rules::{Attr, Fault};
-use pattern_items::Pattern;
-use shared_value::Shared;
-use std::alloc::AllocError;
+use flow_calls::Reply;
+use flow_rules::Fault;
 
-/// The fault of a call, or its reply and what it does to templates and tables.
-fn unless_fault(fault: Option<Fault>, reply: Reply, effect: TemplateEffect) -> Judged
-    ensures reply { result.reply ≡ unless fault reply }
-    ensures effect { (s : StateView) → done s result.effect ≡ unless_refused fault (with_templates (templates_done effect) s) s }
-    ensures due { (s : StateView) → (fault ≡ None → AreTemplatesDue s effect) → IsDue s result.effect }
-    ensures changes { (s : StateView) → changes_done s result.effect ≡ [] }
+/// What a call comes to that changes templates or tables so.
+pub(crate) fn templates_called(state: &State, effect: TemplateEffect) -> Judged
+    requires { AreKept state.now }
+    ensures reply { result.reply ≡ unless (first (template_refusals (state_in state.now) effect)) (template_reply (state_in state.now) effect) }
+    ensures effect { done (state_in state.now) result.effect
+        ≡ unless_refused (first (template_refusals (state_in state.now) effect)) (with_templates (templates_done effect) (state_in state.now)) (state_in state.now) }
+    ensures due { IsDue (state_in state.now) result.effect }
+    ensures changes { changes_done (state_in state.now) result.effect ≡ [] }
 {
-    match fault {
+    match template_fault(state, &effect) {
         Some(fault) => refuses(fault),
         None => Judged {
-            reply,
+            reply: template_reply(state, &effect),
             effect: Effect::Templates(effect),
         },
     }
 }
 
-/// What making a pattern template comes to.
-pub(crate) fn pattern_created(
-    state: &State,
-    id: Option<u16>,
-    attr: &Attr,
-    pattern: &Shared<Pattern>,
-) -> Result<Judged, AllocError>
-    ensures reply { IfOk result (λ o. o.reply ≡ unless (first (pattern_refusals (templates_in (state_in state.now)) id attr.now pattern.now))
-        (replies.PatternTemplateCreated (id_for id (state_in state.now).templates.patterns))) }
-    ensures effect { IfOk result (λ o. done (state_in state.now) o.effect
-        ≡ unless_refused (first (pattern_refusals (templates_in (state_in state.now)) id attr.now pattern.now)) (with_templates (pattern_made id pattern.now) (state_in state.now)) (state_in state.now)) }
-    ensures due { IfOk result (λ o. IsDue (state_in state.now) o.effect) }
-    ensures changes { IfOk result (λ o. changes_done (state_in state.now) o.effect ≡ []) }
+/// Why templates and tables don't change so, if they don't.
+fn template_fault(state: &State, effect: &TemplateEffect) -> Option<Fault>
+    requires { AreKept state.now }
+    ensures { result ≡ first (template_refusals (state_in state.now) effect.now) }
 {
-    let fault = state.pattern_fault(id, attr, pattern.get());
-    let reply = Reply::PatternTemplateCreated(state.pattern_id(id));
-    let effect = TemplateEffect::PatternMade {
-        id,
-        attr: *attr,
-        pattern: pattern.clone()?,
-    };
-    Ok(unless_fault(fault, reply, effect))
+    match effect {
+        TemplateEffect::PatternMade { id, attr, pattern } => {
+            state.pattern_fault(*id, attr, pattern.get())
+        }
+        TemplateEffect::PatternGone(id) => state.pattern_end_fault(*id),
+        TemplateEffect::ActionsMade { id, attr, lists } => {
+            state.actions_fault(*id, attr, lists.get())
+        }
+        TemplateEffect::ActionsGone(id) => state.actions_end_fault(*id),
+        TemplateEffect::TableMade {
+            id,
+            attr,
+            rules_number,
+            templates,
+        } => state.table_fault(*id, attr, *rules_number, templates.get()),
+        TemplateEffect::TableGone(id) => state.table_end_fault(*id),
+    }
 }
 
-/// What the end of a pattern template comes to.
-pub(crate) fn pattern_destroyed(state: &State, id: u16) -> Judged
-    ensures reply { result.reply ≡ unless (first (pattern_end_refusals (templates_in (state_in state.now)) id)) (replies.PatternTemplateDestroyed id) }
-    ensures effect { done (state_in state.now) result.effect
-        ≡ unless_refused (first (pattern_end_refusals (templates_in (state_in state.now)) id)) (with_templates (pattern_gone id) (state_in state.now)) (state_in state.now) }
-    ensures due { IsDue (state_in state.now) result.effect }
-    ensures changes { changes_done (state_in state.now) result.effect ≡ [] }
+/// The reply where they do.
+fn template_reply(state: &State, effect: &TemplateEffect) -> Reply
+    ensures { result ≡ template_reply (state_in state.now) effect.now }
 {
-    unless_fault(
-        state.pattern_end_fault(id),
-        Reply::PatternTemplateDestroyed(id),
-        TemplateEffect::PatternGone(id),
-    )
-}
-
-/// What making an actions template comes to.
-pub(crate) fn actions_created(
-    state: &State,
-    id: Option<u16>,
-    attr: &Attr,
-    lists: &Shared<ActionLists>,
-) -> Result<Judged, AllocError>
-    ensures reply { IfOk result (λ o. o.reply ≡ unless (first (actions_refusals (templates_in (state_in state.now)) id attr.now lists.now.actions lists.now.masks))
-        (replies.ActionsTemplateCreated (id_for id (state_in state.now).templates.actions))) }
-    ensures effect { IfOk result (λ o. done (state_in state.now) o.effect
-        ≡ unless_refused (first (actions_refusals (templates_in (state_in state.now)) id attr.now lists.now.actions lists.now.masks)) (with_templates (actions_made id lists.now.actions lists.now.masks) (state_in state.now)) (state_in state.now)) }
-    ensures due { IfOk result (λ o. IsDue (state_in state.now) o.effect) }
-    ensures changes { IfOk result (λ o. changes_done (state_in state.now) o.effect ≡ []) }
-{
-    let fault = state.actions_fault(id, attr, lists.get());
-    let reply = Reply::ActionsTemplateCreated(state.actions_id(id));
-    let effect = TemplateEffect::ActionsMade {
-        id,
-        attr: *attr,
-        lists: lists.clone()?,
-    };
-    Ok(unless_fault(fault, reply, effect))
-}
-
-/// What the end of an actions template comes to.
-pub(crate) fn actions_destroyed(state: &State, id: u16) -> Judged
-    ensures reply { result.reply ≡ unless (first (actions_end_refusals (templates_in (state_in state.now)) id)) (replies.ActionsTemplateDestroyed id) }
-    ensures effect { done (state_in state.now) result.effect
-        ≡ unless_refused (first (actions_end_refusals (templates_in (state_in state.now)) id)) (with_templates (actions_gone id) (state_in state.now)) (state_in state.now) }
-    ensures due { IsDue (state_in state.now) result.effect }
-    ensures changes { changes_done (state_in state.now) result.effect ≡ [] }
-{
-    unless_fault(
-        state.actions_end_fault(id),
-        Reply::ActionsTemplateDestroyed(id),
-        TemplateEffect::ActionsGone(id),
-    )
-}
-
-/// What making a table comes to.
-pub(crate) fn table_created(
-    state: &State,
-    id: Option<u16>,
-    attr: &Attr,
-    rules_number: u32,
-    templates: &Shared<TableTemplates>,
-) -> Result<Judged, AllocError>
-    ensures reply { IfOk result (λ o. o.reply ≡ unless (first (table_refusals (templates_in (state_in state.now)) id attr.now rules_number templates.now.patterns.items templates.now.actions.items))
-        (replies.TableCreated (id_for id (state_in state.now).templates.tables))) }
-    ensures effect { IfOk result (λ o. done (state_in state.now) o.effect
-        ≡ unless_refused (first (table_refusals (templates_in (state_in state.now)) id attr.now rules_number templates.now.patterns.items templates.now.actions.items)) (with_templates (table_made id (record { attr = attr.now; patterns = templates.now.patterns.items; actions = templates.now.actions.items; rules_number = rules_number })) (state_in state.now)) (state_in state.now)) }
-    ensures due { IfOk result (λ o. IsDue (state_in state.now) o.effect) }
-    ensures changes { IfOk result (λ o. changes_done (state_in state.now) o.effect ≡ []) }
-{
-    let fault = state.table_fault(id, attr, rules_number, templates.get());
-    let reply = Reply::TableCreated(state.table_id(id));
-    let effect = TemplateEffect::TableMade {
-        id,
-        attr: *attr,
-        rules_number,
-        templates: templates.clone()?,
-    };
-    Ok(unless_fault(fault, reply, effect))
-}
-
-/// What the end of a table comes to.
-pub(crate) fn table_destroyed(state: &State, id: u16) -> Judged
-    requires kept { AreKept state.now }
-    ensures reply { result.reply ≡ unless (first (table_end_refusals (templates_in (state_in state.now)) id)) (replies.TableDestroyed id) }
-    ensures effect { done (state_in state.now) result.effect
-        ≡ unless_refused (first (table_end_refusals (templates_in (state_in state.now)) id)) (with_templates (table_gone id) (state_in state.now)) (state_in state.now) }
-    ensures due { IsDue (state_in state.now) result.effect }
-    ensures changes { changes_done (state_in state.now) result.effect ≡ [] }
-{
-    unless_fault(
-        state.table_end_fault(id),
-        Reply::TableDestroyed(id),
-        TemplateEffect::TableGone(id),
-    )
+    match effect {
+        TemplateEffect::PatternMade { id, .. } => {
+            Reply::PatternTemplateCreated(state.pattern_id(*id))
+        }
+        TemplateEffect::PatternGone(id) => Reply::PatternTemplateDestroyed(*id),
+        TemplateEffect::ActionsMade { id, .. } => {
+            Reply::ActionsTemplateCreated(state.actions_id(*id))
+        }
+        TemplateEffect::ActionsGone(id) => Reply::ActionsTemplateDestroyed(*id),
+        TemplateEffect::TableMade { id, .. } => Reply::TableCreated(state.table_id(*id)),
+        TemplateEffect::TableGone(id) => Reply::TableDestroyed(*id),
+    }
 }

@@ -1,11 +1,9 @@
 -- A walk does the edits of the rules on its path, in order.
-use Rattle.std.proofs.Common.{◌≡◌, ℕ, true, flat_map, List, [], ◌∷◌, ◌++◌, fold, Option, None, Some, refl, sym, ap, ◌∙◌}
+use Rattle.std.proofs.Common.{◌≡◌, ℕ, flat_map, List, [], ◌∷◌, ◌++◌, fold, Option, None, Some, refl, sym, ap, ◌∙◌}
 use Rattle.std.proofs.lemmas.List.{append-nil, append_assoc}
 use Rattle.std.proofs.lemmas.List.Concat.{flat_map-append}
 use Rattle.packet_headers.specs.declared.items.LayerAt.{LayerAt}
 use Rattle.packet_headers.specs.declared.edits.Edit.{Edit}
-use Rattle.packet_headers.specs.declared.edits.Edit.TheVariants as edits
-use Rattle.flow_actions.specs.Kinds.{kind_of, is_shareable}
 use Rattle.flow_actions.specs.declared.action.Action.{Action}
 use Rattle.flow_actions.specs.declared.action.Action.TheVariants as actions
 use Rattle.flow_rules.specs.declared.counter.Counter.{Counter}

@@ -1,9 +1,8 @@
 -- A replica catches up in parts.
-use Rattle.std.proofs.Common.{◌≡◌, ◌↔◌, ℕ, ◌+◌, List, [], ◌∷◌, ◌++◌, length, fold, ap, ◌∙◌, arith}
+use Rattle.std.proofs.Common.{◌≡◌, ℕ, ◌+◌, List, ◌++◌, length, fold, ap, ◌∙◌, arith}
 use Rattle.std.proofs.lemmas.List.{length-append}
 use Rattle.std.proofs.lemmas.List.Sums.{fold-append}
 use Rattle.flow_rules.specs.declared.change.Change.{Change}
-use Rattle.flow_rules.specs.declared.change.Change.TheVariants as changes
 use Rattle.flow_rules.specs.Changes.{changed}
 use Rattle.flow_rules.specs.Walk.{Flows}
 use Rattle.replica.specs.Caught.{ReplicaView, caught_up}

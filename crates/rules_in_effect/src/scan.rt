@@ -2,14 +2,12 @@
 ghost use Rattle.std.specs.Prelude.{◌≡◌, map, count_by};
 ghost use Rattle.std.specs.Option.{option_map};
 ghost use Rattle.std.specs.List.{list_any};
-ghost use Rattle.flow_rules.specs.Faults.{is_shared};
 ghost use Rattle.flow_rules.specs.Best as spec;
 ghost use Rattle.rules_in_effect.specs.Entries.{rule_in, is_plain, is_user};
 ghost use Rattle.rules_in_effect.specs.Scan.{is_lower, next_best, scanned};
 
 use crate::in_effect::InEffect;
-use flow_actions::Action;
-use flow_rules::Rule;
+use flow_rules::{Rule, has_shared};
 use packet_headers::Key;
 
 /// The best rule of a group so far, or one of these that comes before it and takes a frame of these layers.
@@ -72,21 +70,5 @@ pub(crate) fn is_used_in(entries: &[InEffect], id: u32) -> bool
 fn is_user(entry: &InEffect, id: u32) -> bool
     ensures { result ≡ is_user id entry.now }
 {
-    names(entry.rule.get().actions().list.as_slice(), id)
-}
-
-/// Whether one of the actions is the shared one of this id.
-fn names(list: &[Action], id: u32) -> bool
-    ensures { result ≡ list_any (is_shared id) list.now }
-{
-    list.iter().any(|action| is_shared(action, id))
-}
-
-fn is_shared(action: &Action, id: u32) -> bool
-    ensures { result ≡ is_shared id action.now }
-{
-    let Action::Indirect(other) = action else {
-        return false;
-    };
-    *other == id
+    has_shared(id, entry.rule.get().actions().list.as_slice())
 }

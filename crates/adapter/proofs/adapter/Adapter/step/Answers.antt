@@ -1,23 +1,20 @@
 use Rattle.std.proofs.Common.{◌≡◌, ◌<◌, ◌≤◌, ◌^◌, ◌++◌, ◌∷◌, [], length, sym, ap, ◌∙◌, subst, refl, arith, List}
 use Rattle.flow_rules.specs.declared.change.Change.{Change}
 use Rattle.flow_rules.specs.declared.limits.Limits.{Limits}
-use Rattle.flow_rules.specs.declared.counter.Counter.{Counter}
-use Rattle.flow_calls.specs.declared.call.Op.{Op}
 use Rattle.flow_calls.specs.declared.reply.Reply.{Reply}
 use Rattle.flow_calls.specs.declared.entry.Entry.{Entry}
 use Rattle.flow_calls.specs.declared.entry.Entry.TheVariants.{Asked}
 use Rattle.adapter.specs.Seen.{Seen}
 use Rattle.adapter.specs.Kept.{entry_kept}
 use Rattle.port_state.specs.Apart.{AreApart}
-use Rattle.port_state.specs.State.{State, flows_of, next_state}
+use Rattle.port_state.specs.State.{State, flows_of}
 use Rattle.port_state.specs.Counters.{carried}
-use Rattle.port_state.specs.KeptState.{KeptState, state_in, count_in}
+use Rattle.port_state.specs.KeptState.{state_in, count_in}
 use Rattle.port_state.specs.Standing.{Standing, standing_kept}
 use Rattle.port_state.specs.Changes.{AreTold, changes_by}
 use Rattle.port_state.specs.Effect.{IsDue, done, changes_done, operations}
 use Rattle.port_state.specs.Reply.{answer_of, reply_to}
 use Rattle.adapter.specs.Sound.{Sound}
-use Rattle.port_state.proofs.StateKept.{IsUnder}
 use Rattle.port_state.proofs.ChangesTold.{AreTold-push}
 use Rattle.adapter.proofs.SoundGrowth.{Sound-asked, IsUnder-sound, reply-sound}
 use Rattle.adapter.proofs.adapter.Adapter.step.Goals as goal

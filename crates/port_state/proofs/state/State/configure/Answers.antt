@@ -3,7 +3,6 @@ use Rattle.std.proofs.lemmas.Bool.{ltb-false}
 use Rattle.flow_rules.specs.declared.fault.Fault.{Fault}
 use Rattle.flow_rules.specs.declared.fault.Cause.TheVariants as causes
 use Rattle.flow_rules.specs.Faults.{fault_if, first}
-use Rattle.op_queues.specs.OpQueue.{Queue}
 use Rattle.op_queues.specs.OpQueue as op_queues
 use Rattle.port_state.specs.declared.held.Held.{Held}
 use Rattle.port_state.specs.Kept.{AreKept, AreKeptFor}

@@ -8,11 +8,10 @@ use Rattle.port_state.specs.Kept.{AreKept, AreKeptFor, IsHeldIn}
 use Rattle.port_state.specs.KeptState.{KeptState, count_in, state_in}
 use Rattle.port_state.specs.Ready.{IsReady}
 use Rattle.port_state.specs.State.{State, all_held, flows_of, queue_at, succeeds, taken, with_queue}
-use Rattle.port_state.specs.Queue.{FlowQueue}
 use Rattle.port_state.proofs.ApartKept.{IsAlone-first}
 use Rattle.std.proofs.lemmas.List.Elements.{All-head}
 use Rattle.port_state.proofs.Stepping.{failed-kept, first-behind, first-counts, kept-popped, none-counted, popped, ready-first, ready-with, step-taken, taken-with}
-use Rattle.port_state.proofs.Waiting.{all-at, queues-taken}
+use Rattle.port_state.proofs.Waiting.{all-at, others-taken}
 use Rattle.port_state.proofs.state.State.step_queue.Goals as goal
 
 -- the first operation of a queue meets what all that are held meet
@@ -83,8 +82,7 @@ returns-then-ok-clause-kept c =
     let ok : succeeds s op ≡ true = sym (c.first_succeeds-ok.ensures op ops is) ∙ c.if-ok.true in
     let others = behind-is k c.finish_first-op.new.self q c.first_succeeds-ok.result true c.finish_first-op.ensures.others c.if-ok.true in
     let held : all_held (state_in c.take.new.self) ≡ all_held (with_queue q (popped q s true) s)
-    = ap all_held (c.take.ensures.state ∙ ap (λ (x : KeptState). taken (state_in x) op) others)
-    ∙ ap (λ (qs : List FlowQueue). all_held (record s { queues = qs })) (queues-taken (with_queue q (popped q s true) s) op) in
+    = ap all_held (c.take.ensures.state ∙ ap (λ (x : KeptState). taken (state_in x) op) others ∙ others-taken (with_queue q (popped q s true) s) op) in
     subst (AreKeptFor c.take.new.self.ids c.take.new.self.templates c.take.new.self.shared) (sym held)
     (c.take.ensures.kept (all_held (with_queue q (popped q s true) s))
     (IsAlone-first s op _ (first-behind q s true op ops is) c.requires.apart ok)

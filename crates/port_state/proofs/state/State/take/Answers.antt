@@ -26,15 +26,15 @@ returns-clause-kept c = λ others alone kept.
     elim c.match-op.branch [
       | in-RuleCreated w ↦ behind _ w.take_rule.new.self others w.self-is
           (w.take_rule.ensures.kept others (alone-is op _ others w.in-RuleCreated.is alone) (kept-is now op _ others w.in-RuleCreated.is kept))
-      | in-RuleDestroyed w ↦ behind _ w.destroy.new.self others w.self-is
-          (w.destroy.ensures.kept others (alone-is op _ others w.in-RuleDestroyed.is alone)
+      | in-RuleDestroyed w ↦ behind _ w.destroy-change.new.self others w.self-is
+          (w.destroy-change.ensures.kept others (alone-is op _ others w.in-RuleDestroyed.is alone)
           (without (held.RuleDestroyed w.in-RuleDestroyed.id) (λ test q. (refl, refl, refl)) w.in-RuleDestroyed.is))
-      | in-SharedCreated w ↦ behind _ w.activate.new.self others w.self-is
-          (w.activate.ensures.kept others (alone-is op _ others w.in-SharedCreated.is alone) (kept-is now op _ others w.in-SharedCreated.is kept))
-      | in-SharedUpdated w ↦ behind _ w.replace.new.self others w.self-is
-          (w.replace.ensures.kept others (alone-is op _ others w.in-SharedUpdated.is alone)
+      | in-SharedCreated w ↦ behind _ w.activate-change.new.self others w.self-is
+          (w.activate-change.ensures.kept others (alone-is op _ others w.in-SharedCreated.is alone) (kept-is now op _ others w.in-SharedCreated.is kept))
+      | in-SharedUpdated w ↦ behind _ w.replace-change.new.self others w.self-is
+          (w.replace-change.ensures.kept others (alone-is op _ others w.in-SharedUpdated.is alone)
           (without (held.SharedUpdated w.in-SharedUpdated.id w.in-SharedUpdated.action) (λ test q. (refl, refl, refl)) w.in-SharedUpdated.is))
-      | in-SharedDestroyed w ↦ behind _ w.unshare.new.self others w.self-is
-          (w.unshare.ensures.kept others (alone-is op _ others w.in-SharedDestroyed.is alone)
+      | in-SharedDestroyed w ↦ behind _ w.unshare-change.new.self others w.self-is
+          (w.unshare-change.ensures.kept others (alone-is op _ others w.in-SharedDestroyed.is alone)
           (without (held.SharedDestroyed w.in-SharedDestroyed.id) (λ test q. (refl, refl, refl)) w.in-SharedDestroyed.is))
     ]
