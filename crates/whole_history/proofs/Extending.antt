@@ -1,5 +1,5 @@
 -- What one more frame adds behind others.
-use Rattle.std.proofs.Common.{◌≡◌, ℕ, ◌+◌, List, [], ◌∷◌, ◌++◌, length, refl, sym, ap, ◌∙◌, append_assoc, append-nil, add-zero, arith}
+use Rattle.std.proofs.Common.{◌≡◌, ℕ, ◌+◌, List, [], ◌∷◌, ◌++◌, length, sym, ap, ◌∙◌, append_assoc, append-nil, add-zero, arith}
 use Rattle.flow_rules.specs.declared.limits.Limits.{Limits}
 use Rattle.capture_files.specs.Record.{Frame}
 use Rattle.flow_calls.specs.declared.entry.Entry.{Entry}

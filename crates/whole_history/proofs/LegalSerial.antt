@@ -17,10 +17,10 @@ IsLegalBehind-append limits before (x ∷ xs) ys p q =
     (p.0, IsLegalBehind-append limits (before ++ x ∷ []) xs ys p.1 (subst (λ b. IsLegalBehind limits b ys) (sym (append_assoc before (x ∷ []) xs)) q))
 
 -- a step adds legal entries to every history
-abbrev AddsLegal : Limits → (List Entry → List Entry) → Type 0
+abbrev pub AddsLegal : Limits → (List Entry → List Entry) → Type 0
 AddsLegal limits step = (h : List Entry) → IsLegalBehind limits h (step h)
 
-AddsLegal-asks : (limits : Limits) (who : ℕ) (calls : List Call) → AddsLegal limits (asks_of limits who calls)
+pub AddsLegal-asks : (limits : Limits) (who : ℕ) (calls : List Call) → AddsLegal limits (asks_of limits who calls)
 AddsLegal-asks limits who [] h = tt
 AddsLegal-asks limits who (call ∷ calls) h = (refl, AddsLegal-asks limits who calls (h ++ asked_by limits h (caller_at who) call ∷ []))
 

@@ -38,7 +38,7 @@ NoFrame-append xs ys p q = record {
 NoFrame-nil : NoFrame []
 NoFrame-nil = record { parcels = refl; passers = refl; numbers = λ who. refl }
 
-NoFrame-asks : (limits : Limits) (who : ℕ) (calls : List Call) (h : List Entry) → NoFrame (asks_of limits who calls h)
+pub NoFrame-asks : (limits : Limits) (who : ℕ) (calls : List Call) (h : List Entry) → NoFrame (asks_of limits who calls h)
 NoFrame-asks limits who [] h = NoFrame-nil
 NoFrame-asks limits who (call ∷ calls) h =
     let more = NoFrame-asks limits who calls (h ++ asked_by limits h (caller_at who) call ∷ []) in

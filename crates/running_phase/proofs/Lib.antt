@@ -1,0 +1,13 @@
+pub mod Sending
+pub mod Taking
+pub mod Turning
+pub mod Backward
+pub mod Pieces
+pub mod Middles
+pub mod Rosters
+pub mod Sent
+pub mod Leaving
+pub mod Closes
+pub mod Seats
+pub mod Doing
+pub mod Acting
