@@ -1,10 +1,11 @@
 //! How sessions end: edges that fail, captures that stop, and limits.
-use crate::run::{Capture, Fails, Frame, ONE_QUEUE, Row, SCRIPT_ALONE, TWO_QUEUES, expect};
+use crate::run::{ONE_QUEUE, Row, SCRIPT_ALONE, TWO_QUEUES, expect};
 use std::alloc::{AllocError, Global};
 use std::process::Abort;
 use std::sync::Wait;
 use std::thread::Threads;
 use test_frames::UDP_FRAME;
+use test_sessions::{Capture, Fails, Frame};
 use testpmd_shell::Status;
 
 /// A rule, a phase, and nothing else.

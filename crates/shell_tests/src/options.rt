@@ -1,5 +1,5 @@
 //! Words that give options, and words that give none.
-use crate::run::{Row, Told, expect, expect_told};
+use crate::run::{Row, Told, expect, expect_serial};
 use std::alloc::Global;
 use std::process::Abort;
 use std::sync::Wait;
@@ -161,19 +161,22 @@ fn words_that_give_no_options(rt: HostRuntime) {
 }
 
 const SEVERAL_WORKERS: [Told<'static>; 1] = [(
-    "frames pass by the first of four workers",
+    "calls, and then frames by the first of four workers",
     &["--cmdline-file=script", "--rx-pcap=capture", "--nb-cores=4"],
-    "start\n",
+    "start
+flow create 0 ingress pattern eth / end actions drop / end
+",
     &[(&UDP_FRAME, &[]), (&UDP_FRAME, &[])],
     "shell 1.1: Packet forwarding started
-worker0 #1: queue 0 mark - hash - path -
-worker0 #2: queue 0 mark - hash - path -
-shell 2.1: Packet forwarding stopped: received 2 dropped 0 queues 2
-total received 2 dropped 0 queues 2
+shell 2.1: Flow rule #0 created
+worker0 #1: drop mark - hash - path 0
+worker0 #2: drop mark - hash - path 0
+shell 3.1: Packet forwarding stopped: received 2 dropped 2 queues 0
+total received 2 dropped 2 queues 0
 ",
 )];
 
 #[test]
-fn every_session_is_serial(rt: HostRuntime) {
-    expect_told(&rt, rt.alloc(), &SEVERAL_WORKERS);
+fn the_serial_call_is_serial_whatever_the_workers(rt: HostRuntime) {
+    expect_serial(&rt, rt.alloc(), &SEVERAL_WORKERS);
 }

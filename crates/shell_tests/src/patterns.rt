@@ -1,9 +1,10 @@
 //! Which frames patterns match.
-use crate::run::{Frame, Row, TWO_QUEUES, expect};
+use crate::run::{Row, TWO_QUEUES, expect};
 use std::alloc::{AllocError, Global};
 use test_frames::{
     DOUBLE_TAGGED_UDP_FRAME, IPV6_FRAME, RUNT_FRAME, TAGGED_UDP_FRAME, UDP_FRAME, VXLAN_FRAME,
 };
+use test_sessions::Frame;
 
 /// The UDP frame without, with one and with two tags.
 const TAGGED: [Frame; 3] = [

@@ -1,29 +1,37 @@
 //! Transmit files: which frames go out, in which order, with which bytes, and what is written where an edge fails.
 use crate::endings::{BIG_ENDIAN_NANOSECONDS, ONE_FRAME, ONE_PHASE, THREE_FRAMES};
-use crate::run::{Capture, Fails, Record, Row, expect_sent, file_of_records};
+use crate::run::{Row, expect_sent};
 use std::alloc::Global;
 use std::process::Abort;
 use std::sync::Wait;
 use std::thread::Threads;
 use test_frames::{TAGGED_UDP_FRAME, UDP_FRAME};
+use test_sessions::{Capture, Fails, Record, file_of_records};
 use testpmd_shell::Status;
 
-const SENT: [&str; 4] = [
+const SENT: [&str; 5] = [
     "--cmdline-file=script",
     "--rx-pcap=capture",
     "--tx-pcap=sent",
     "--rxq=2",
+    "--nb-cores=0",
 ];
 
 /// The transmit file has the capture's name.
-const SENT_BACK: [&str; 4] = [
+const SENT_BACK: [&str; 5] = [
     "--tx-pcap=capture",
     "--cmdline-file=script",
     "--rx-pcap=capture",
     "--rxq=2",
+    "--nb-cores=0",
 ];
 
-const NO_CAPTURE: [&str; 3] = ["--cmdline-file=script", "--tx-pcap=sent", "--rxq=2"];
+const NO_CAPTURE: [&str; 4] = [
+    "--cmdline-file=script",
+    "--tx-pcap=sent",
+    "--rxq=2",
+    "--nb-cores=0",
+];
 
 /// The header of a record of 60 bytes with no stamp, and of one of 64.
 const SIXTY: [u8; 16] = [0, 0, 0, 0, 0, 0, 0, 0, 60, 0, 0, 0, 60, 0, 0, 0];

@@ -1,5 +1,6 @@
 -- What is kept of the frames that were taken, behind more entries.
-use Rattle.std.proofs.Common.{◌≡◌, ℕ, ◌+◌, ◌-◌, List, [], ◌∷◌, ◌++◌, length, slice_get, Option, None, Some, IfSome, Bool, true, false, cond, refl, sym, ap, ◌∙◌, subst, append_assoc, append-nil, length-append, arith}
+use Rattle.std.proofs.Common.{◌≡◌, ℕ, ◌+◌, ◌-◌, List, [], ◌∷◌, ◌++◌, length, slice_get, Option, None, Some, IfSome, is_some, Vec, Bool, true, false, cond, refl, sym, ap, ◌∙◌, subst, append_assoc, append-nil, length-append, arith}
+use Rattle.std.specs.Global.{Global}
 use Rattle.std.specs.Io.KnownBytes.{append_known}
 use Rattle.packet_headers.specs.Layers.{layers}
 use Rattle.capture_files.specs.Record.{Frame}
@@ -15,7 +16,8 @@ use Rattle.whole_history.specs.Serial.{caller_at, asks_of, all_asks_of}
 use Rattle.testpmd_shell.specs.declared.feed.Arrived.{Arrived}
 use Rattle.testpmd_shell.specs.Feed.{frame_in}
 use Rattle.testpmd_shell.specs.Phase.{parcel_at}
-use Rattle.testpmd_shell.specs.Sending.{flows_now, sent_by, AreKept}
+use Rattle.running_phase.specs.declared.copies.FrameCopy.{FrameCopy}
+use Rattle.testpmd_shell.specs.Sending.{flows_now, records_kept, sent_by, AreKept}
 
 -- calls send nothing
 pub sends-asks : (limits : Limits) (who : ℕ) (calls : List Call) (h : List Entry) (l : Limits) (frames : List Frame) (before : List Entry)
@@ -35,7 +37,7 @@ sends-all_asks limits who (calls ∷ others) h l frames before =
     ∙ sends-all_asks limits (who + 1) others (h ++ asked) l frames (before ++ asked)
 
 -- what a history and more entries send
-grew : (old new : Seen) (es : List Entry) (frames : List Frame) → Grows old new es
+pub grew : (old new : Seen) (es : List Entry) (frames : List Frame) → Grows old new es
     → records_of_entries old.limits frames [] old.history ++ records_of_entries old.limits frames old.history es ≡ records_of_entries new.limits frames [] new.history
 grew old new es frames grows =
     sym (records_of_entries-append old.limits frames [] old.history es)
@@ -72,7 +74,7 @@ AreKept-all_asks kept taken frames limits who lists h old new grows =
 pub AreKept-none : (kept : Option (List ℕ)) (taken : ℕ) (frames : List Frame) (adapter : Seen) → AreKept kept taken frames adapter → AreKept kept taken (frames ++ []) adapter
 AreKept-none kept taken frames adapter are = subst (λ fs. AreKept kept taken fs adapter) (sym (append-nil frames)) are
 
-slice_get-seam : (xs : List Frame) (x : Frame) (ys : List Frame) → slice_get (xs ++ x ∷ ys) (length xs) ≡ Some x
+pub slice_get-seam : (xs : List Frame) (x : Frame) (ys : List Frame) → slice_get (xs ++ x ∷ ys) (length xs) ≡ Some x
 slice_get-seam [] x ys = refl
 slice_get-seam (y ∷ xs) x ys = slice_get-seam xs x ys
 
@@ -118,3 +120,11 @@ AreKept-start keeps adapter empty = record { counted = refl; records = by keeps 
   by : (k : Bool) → IfSome (cond k (Some []) None) (IsRecord adapter [])
   by true = λ rest. ap (records_of_entries adapter.limits rest []) (sym empty)
   by false = tt
+
+pub some-kept : (keeps : Bool) (kept : Option (List ℕ)) → kept ≡ cond keeps (Some []) None → is_some kept ≡ keeps
+some-kept true kept is = ap is_some is
+some-kept false kept is = ap is_some is
+
+pub some-records : (kept : Option (Vec FrameCopy Global)) → is_some (records_kept kept) ≡ is_some kept
+some-records None = refl
+some-records (Some list) = refl

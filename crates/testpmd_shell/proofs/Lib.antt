@@ -2,10 +2,15 @@ pub mod Reading
 pub mod Allowing
 pub mod Keeping
 pub mod Passing
+pub mod WaysRun
 pub mod PartsRun
+pub mod Copying
+pub mod PhaseRun
+pub mod Working
 pub mod Asking
 pub mod ScriptSize
 pub mod Running
+pub mod Opening
 pub mod Telling
 pub mod Stopping
 pub mod Statuses

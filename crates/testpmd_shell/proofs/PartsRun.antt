@@ -11,13 +11,19 @@ use Rattle.flow_calls.specs.declared.entry.Entry.{Entry}
 use Rattle.adapter.specs.Seen.{Seen, Grows}
 use Rattle.flow_grammar.specs.declared.part.Part.{Part}
 use Rattle.flow_grammar.specs.declared.part.Part.TheVariants.{Section, Phase}
-use Rattle.whole_history.specs.Reach.{first, behind_first, asks_stop, left_by, taken_by, part_asks_stop, program_asks_stop}
-use Rattle.whole_history.specs.Serial.{asks_of, all_asks_of, passes_of, in_turn, part_of, serial_from}
+use Rattle.whole_history.specs.Reach.{first, behind_first, asks_stop, has_phase, is_phase, left_by, taken_by, part_asks_stop, program_asks_stop}
+use Rattle.whole_history.specs.Serial.{asks_of, all_asks_of, passes_of, in_turn, part_of}
 use Rattle.testpmd_shell.specs.declared.feed.Feed.{Feed}
-use Rattle.testpmd_shell.specs.Phase.{IsFull, Takes}
+use Rattle.testpmd_shell.specs.Phase.{AreEntered, IsFull, Takes}
+use Rattle.testpmd_shell.specs.Ways.{AreRun, Way, serially}
+use Rattle.testpmd_shell.proofs.WaysRun.{AreRun-as}
 use Rattle.testpmd_shell.specs.Sending.{AreKept}
 use Rattle.testpmd_shell.proofs.Keeping.{AreKept-none, AreKept-asks, AreKept-all_asks}
 use Rattle.testpmd_shell.specs.Parts.{ended_in, taken_in, WasRead, MayRemain, TakesIn, RunsPart, PartsToGo, RunsParts}
+
+or-false : (b : Bool) → (b || false) ≡ b
+or-false true = refl
+or-false false = refl
 
 -- ---- the frames of a phase, whatever stands behind them
 
@@ -63,48 +69,45 @@ full (Some n) more rest false false is stays may =
       asked = le-ltb (length (more ++ rest)) n (omega (arith, length-append more rest));
     }
 
--- a session with a capture
-pub TakesIn-takes : (count : Option ℕ) (feed feed' : Feed) (state' : ShelfState) (content : List ℕ) (frames : List Frame) (before after : Seen) (sent sent' : Option (List ℕ))
-    → Takes count feed feed' state'.capture content frames before after sent sent' → TakesIn count (Some feed) (Some feed') state' content frames before after sent sent'
-TakesIn-takes count feed feed' state' content frames before after sent sent' took =
-    let more = took.takes.more in
-    let whole = λ (rest : List Frame) (may : MayRemain feed'.reader.ended rest).
-    full count more rest feed.reader.ended feed'.reader.ended took.full (λ e. (took.takes.none e).1) may in
-    record {
-      more = more;
-      kept = refl;
-      read = took.takes.read;
-      keeps = took.takes.keeps;
-      counted = took.takes.counted;
-      grows = took.takes.grows;
-      taken = λ rest may. (whole rest may).taken;
-      left = λ rest may. (whole rest may).left;
-      asked = λ rest may. (whole rest may).asked;
-      none = took.takes.none;
-    }
+module _ (Dealt : List Frame → Type 0) (count : Option ℕ) (state' : ShelfState) (content : List ℕ) (frames : List Frame) where
+  -- a session with a capture
+  pub TakesIn-takes : (feed feed' : Feed) → Takes Dealt count feed feed' state'.capture content frames → TakesIn Dealt count (Some feed) (Some feed') state' content frames
+  TakesIn-takes feed feed' took =
+      let more = took.takes.more in
+      let whole = λ (rest : List Frame) (may : MayRemain feed'.reader.ended rest).
+      full count more rest feed.reader.ended feed'.reader.ended took.full (λ e. (took.takes.none e).1) may in
+      record {
+        more = more;
+        kept = refl;
+        read = took.takes.read;
+        counted = took.takes.counted;
+        dealt = took.takes.dealt;
+        taken = λ rest may. (whole rest may).taken;
+        left = λ rest may. (whole rest may).left;
+        asked = λ rest may. (whole rest may).asked;
+        none = took.takes.none;
+      }
 
--- a session without one
-pub TakesIn-none : (count : Option ℕ) (state' : ShelfState) (content : List ℕ) (frames : List Frame) (before : Seen) (sent : Option (List ℕ))
-    → frames ≡ [] → TakesIn count None None state' content frames before before sent sent
-TakesIn-none count state' content frames before sent none = record {
-  more = [];
-  kept = refl;
-  read = append-nil frames ∙ none;
-  keeps = AreKept-none sent 0 frames before;
-  counted = refl;
-  grows = record { limits = refl; history = sym (append-nil before.history) };
-  taken = λ rest may. ap (first count) (may refl) ∙ nothing count;
-  left = λ rest may. ap (behind_first count) (may refl) ∙ nothing_left count ∙ sym (may refl);
-  asked = λ rest may. refl;
-  none = λ e. (refl, refl);
-} where
-  nothing : (count : Option ℕ) → first count [] ≡ []
-  nothing None = refl
-  nothing (Some n) = take-short n [] (omega arith)
+  -- a session without one
+  pub TakesIn-none : Dealt [] → frames ≡ [] → TakesIn Dealt count None None state' content frames
+  TakesIn-none dealt none = record {
+    more = [];
+    kept = refl;
+    read = append-nil frames ∙ none;
+    counted = refl;
+    dealt = dealt;
+    taken = λ rest may. ap (first count) (may refl) ∙ nothing count;
+    left = λ rest may. ap (behind_first count) (may refl) ∙ nothing_left count ∙ sym (may refl);
+    asked = λ rest may. refl;
+    none = λ e. (refl, refl);
+  } where
+    nothing : (count : Option ℕ) → first count [] ≡ []
+    nothing None = refl
+    nothing (Some n) = take-short n [] (omega arith)
 
-  nothing_left : (count : Option ℕ) → behind_first count [] ≡ []
-  nothing_left None = refl
-  nothing_left (Some n) = drop-short n [] (omega arith)
+    nothing_left : (count : Option ℕ) → behind_first count [] ≡ []
+    nothing_left None = refl
+    nothing_left (Some n) = drop-short n [] (omega arith)
 
 -- ---- a part
 
@@ -119,25 +122,27 @@ grows-turn step steps s0 s1 s2 one more = record {
 grows-none : (s : Seen) → Grows s s (in_turn [] s.history)
 grows-none s = record { limits = refl; history = sym (append-nil s.history) }
 
-pub RunsPart-section : (calls : List Call) (feed : Option Feed) (state' : ShelfState) (content : List ℕ) (frames : List Frame) (before after : Seen) (sent : Option (List ℕ))
+pub RunsPart-section : (way : Way) (calls : List Call) (feed : Option Feed) (state' : ShelfState) (content : List ℕ) (frames : List Frame) (before after : Seen) (sent : Option (List ℕ))
     → WasRead feed state' content frames → Grows before after (asks_of before.limits 0 calls before.history)
-    → RunsPart (Section calls) feed feed state' content frames before after sent sent
-RunsPart-section calls feed state' content frames before after sent was grows = record {
+    → ((limits : Limits) (number : ℕ) (fs : List Frame) (h : List Entry) → way limits number fs (Section calls) h (asks_of limits 0 calls h))
+    → RunsPart way (Section calls) feed feed state' content frames before after sent sent
+RunsPart-section way calls feed state' content frames before after sent was grows may_add = record {
   more = [];
   kept = refl;
   read = subst (WasRead feed state' content) (sym (append-nil frames)) was;
   counted = sym (add-zero (taken_in feed));
   keeps = λ are. AreKept-none sent (taken_in feed) frames after
       (AreKept-asks sent (taken_in feed) frames before.limits 0 calls before.history before after grows are);
-  grows = λ rest may. grows;
+  adds = λ rest may. record {
+    entries = asks_of before.limits 0 calls before.history;
+    grows = grows;
+    may = may_add before.limits (taken_in feed + 1) rest before.history;
+  };
   taken = λ rest may. refl;
   left = λ rest may. refl;
   asked = λ rest may. or-false (ended_in feed);
   none = λ e. (refl, e);
-} where
-  or-false : (b : Bool) → (b || false) ≡ b
-  or-false true = refl
-  or-false false = refl
+}
 
 -- the opening, and then the shell's calls
 grows-opening : (L : Limits) (opening : Call) (calls : List Call) (s0 s1 s2 : Seen) → s0.limits ≡ L → s1.limits ≡ L
@@ -155,40 +160,45 @@ grows-opening L opening calls s0 s1 s2 l0 l1 g1 g2 =
 pub RunsPart-phase : (opening closing : Call) (count : Option ℕ) (calls : List Call) (agents : List (List Call)) (feed feed' : Option Feed) (state' : ShelfState)
     (content : List ℕ) (frames : List Frame) (s0 s1 s2 s3 s4 s5 : Seen) (sent sent' : Option (List ℕ))
     → Grows s0 s1 (asks_of s0.limits 0 (opening ∷ []) s0.history) → Grows s1 s2 (asks_of s1.limits 0 calls s1.history)
-    → Grows s2 s3 (all_asks_of s2.limits 1 agents s2.history) → TakesIn count feed feed' state' content frames s3 s4 sent sent'
+    → Grows s2 s3 (all_asks_of s2.limits 1 agents s2.history) → TakesIn (AreEntered (taken_in feed) frames s3 s4 sent sent') count feed feed' state' content frames
     → Grows s4 s5 (asks_of s4.limits 0 (closing ∷ []) s4.history)
-    → RunsPart (Phase opening count calls agents closing) feed feed' state' content frames s0 s5 sent sent'
+    → RunsPart serially (Phase opening count calls agents closing) feed feed' state' content frames s0 s5 sent sent'
 RunsPart-phase opening closing count calls agents feed feed' state' content frames s0 s1 s2 s3 s4 s5 sent sent' g1 g2 g3 took g5 =
     let L = s0.limits in
     let more = took.more in
     let number = taken_in feed + 1 in
+    let entered = took.dealt in
     let l2 : s2.limits ≡ L = g2.limits ∙ g1.limits in
     let l3 : s3.limits ≡ L = g3.limits ∙ l2 in
-    let l4 : s4.limits ≡ L = took.grows.limits ∙ l3 in
+    let l4 : s4.limits ≡ L = entered.grows.limits ∙ l3 in
     let opens = asks_of L 0 (opening ∷ calls) in
     let tells = all_asks_of L 1 agents in
     let closes = asks_of L 0 (closing ∷ []) in
     let opened : Grows s0 s2 (opens s0.history) = grows-opening L opening calls s0 s1 s2 refl g1.limits g1 g2 in
     let told : Grows s2 s3 (tells s2.history) = subst (λ l. Grows s2 s3 (all_asks_of l 1 agents s2.history)) l2 g3 in
     let closed : Grows s4 s5 (closes s4.history) = subst (λ l. Grows s4 s5 (asks_of l 0 (closing ∷ []) s4.history)) l4 g5 in
-    let passed : Grows s3 s4 (passes_of L number more s3.history) = subst (λ l. Grows s3 s4 (passes_of l number more s3.history)) l3 took.grows in
+    let passed : Grows s3 s4 (passes_of L number more s3.history) = subst (λ l. Grows s3 s4 (passes_of l number more s3.history)) l3 entered.grows in
     record {
       more = more;
       kept = took.kept;
       read = took.read;
       keeps = λ are. AreKept-asks sent' (taken_in feed') (frames ++ more) s4.limits 0 (closing ∷ []) s4.history s4 s5 g5
-          (took.keeps
+          (subst (λ n. AreKept sent' n (frames ++ more) s4) (sym took.counted) (entered.keeps
           (AreKept-all_asks sent (taken_in feed) frames s2.limits 1 agents s2.history s2 s3 g3
           (AreKept-asks sent (taken_in feed) frames s1.limits 0 calls s1.history s1 s2 g2
-          (AreKept-asks sent (taken_in feed) frames s0.limits 0 (opening ∷ []) s0.history s0 s1 g1 are))));
+          (AreKept-asks sent (taken_in feed) frames s0.limits 0 (opening ∷ []) s0.history s0 s1 g1 are)))));
       counted = took.counted;
-      grows = λ rest may.
+      adds = λ rest may.
           let passes = passes_of L number (first count (more ++ rest)) in
           let all : Grows s3 s4 (passes s3.history) = subst (λ fs. Grows s3 s4 (passes_of L number fs s3.history)) (sym (took.taken rest may)) passed in
-          grows-turn opens (tells ∷ passes ∷ closes ∷ []) s0 s2 s5 opened
-          (grows-turn tells (passes ∷ closes ∷ []) s2 s3 s5 told
-          (grows-turn passes (closes ∷ []) s3 s4 s5 all
-          (grows-turn closes [] s4 s5 s5 closed (grows-none s5))));
+          record {
+            entries = part_of L number (more ++ rest) (Phase opening count calls agents closing) s0.history;
+            grows = grows-turn opens (tells ∷ passes ∷ closes ∷ []) s0 s2 s5 opened
+                (grows-turn tells (passes ∷ closes ∷ []) s2 s3 s5 told
+                (grows-turn passes (closes ∷ []) s3 s4 s5 all
+                (grows-turn closes [] s4 s5 s5 closed (grows-none s5))));
+            may = refl;
+          };
       taken = took.taken;
       left = took.left;
       asked = took.asked;
@@ -197,71 +207,75 @@ RunsPart-phase opening closing count calls agents feed feed' state' content fram
 
 -- ---- all parts
 
-pub PartsToGo-start : (parts : List Part) (feed : Option Feed) (state' : ShelfState) (content : List ℕ) (frames : List Frame) (before : Seen) (sent : Option (List ℕ))
-    → WasRead feed state' content frames → PartsToGo parts parts feed feed state' content frames before before sent sent
-PartsToGo-start parts feed state' content frames before sent was = record {
-  more = [];
-  kept = refl;
-  read = subst (WasRead feed state' content) (sym (append-nil frames)) was;
-  keeps = AreKept-none sent (taken_in feed) frames before;
-  history = λ rest may. refl;
-  asked = λ rest may. refl;
-}
+split : (a b : Bool) → (a || b) ≡ false → (a ≡ false) × (b ≡ false)
+split true b e = cc
+split false b e = (refl, e)
+
+-- a program without phases has none in front, and none behind
+pub no_phase : (part : Part) (others : List Part) → has_phase (part ∷ others) ≡ false → (is_phase part ≡ false) × (has_phase others ≡ false)
+no_phase part others e = split (is_phase part) (has_phase others) e
 
 or_assoc : (a b c : Bool) → (a || (b || c)) ≡ ((a || b) || c)
 or_assoc true b c = refl
 or_assoc false b c = refl
 
--- one more part was run
-pub PartsToGo-next : (parts : List Part) (part : Part) (others : List Part) (start feed feed' : Option Feed) (state state' : ShelfState) (content : List ℕ) (frames : List Frame) (before mid after : Seen) (first sent sent' : Option (List ℕ))
-    → (go : PartsToGo parts (part ∷ others) start feed state content frames before mid first sent) → mid.limits ≡ before.limits
-    → RunsPart part feed feed' state' content (frames ++ go.more) mid after sent sent'
-    → PartsToGo parts others start feed' state' content frames before after first sent'
-PartsToGo-next parts part others start feed feed' state state' content frames before mid after first sent sent' go limits ran =
-    let L = before.limits in
-    let more = ran.more in
-    let number = taken_in feed + 1 in
-    let may' = λ (rest : List Frame) (may : MayRemain (ended_in feed') rest) (ended : ended_in feed ≡ true).
-    let none = ran.none ended in no_more more rest (may none.1) ∙ none.0 in
-    record {
-      more = go.more ++ more;
-      kept = ran.kept ∙ go.kept;
-      read = subst (WasRead feed' state' content) (append_assoc frames go.more more) ran.read;
-      keeps = λ are. subst (λ fs. AreKept sent' (taken_in feed') fs after) (append_assoc frames go.more more) (ran.keeps (go.keeps are));
-      history = λ rest may.
-          let fs = more ++ rest in
-          let left : left_by part fs ≡ rest = ran.left rest may in
-          let added = part_of L number fs part mid.history in
-          let grew : after.history ≡ mid.history ++ added =
-          (ran.grows rest may).history ∙ ap (λ l. mid.history ++ part_of l number fs part mid.history) limits in
-          let count : number + length (taken_by part fs) ≡ taken_in feed' + 1 =
-          let counted = ran.counted in omega (arith, ap length (ran.taken rest may)) in
-          ap (λ l. before.history ++ serial_from L (taken_in start + 1) l parts before.history) (append_assoc go.more more rest)
-          ∙ go.history fs (may' rest may)
-          ∙ sym (append_assoc mid.history added (serial_from L (number + length (taken_by part fs)) (left_by part fs) others (mid.history ++ added)))
-          ∙ ap (λ n. (mid.history ++ added) ++ serial_from L n (left_by part fs) others (mid.history ++ added)) count
-          ∙ ap (λ l. (mid.history ++ added) ++ serial_from L (taken_in feed' + 1) l others (mid.history ++ added)) left
-          ∙ ap (λ h. h ++ serial_from L (taken_in feed' + 1) rest others h) (sym grew);
-      asked = λ rest may.
-          let fs = more ++ rest in
-          ap (λ l. ended_in start || program_asks_stop parts l) (append_assoc go.more more rest)
-          ∙ go.asked fs (may' rest may)
-          ∙ or_assoc (ended_in feed) (part_asks_stop part fs) (program_asks_stop others (left_by part fs))
-          ∙ ap (λ b. b || program_asks_stop others (left_by part fs)) (ran.asked rest may)
-          ∙ ap (λ l. ended_in feed' || program_asks_stop others l) (ran.left rest may);
-    }
+module _ (way : Way) (parts : List Part) (start : Option Feed) (content : List ℕ) (frames : List Frame) (before : Seen) where
+  pub PartsToGo-start : (state' : ShelfState) (sent : Option (List ℕ)) → WasRead start state' content frames → PartsToGo way parts parts start start state' content frames before before sent sent
+  PartsToGo-start state' sent was = record {
+    more = [];
+    kept = refl;
+    read = subst (WasRead start state' content) (sym (append-nil frames)) was;
+    keeps = AreKept-none sent (taken_in start) frames before;
+    go = λ rest may es are. (es, refl, are);
+    asked = λ rest may. refl;
+  }
 
--- no part is left
-pub RunsParts-end : (parts : List Part) (start feed : Option Feed) (state' : ShelfState) (content : List ℕ) (frames : List Frame) (before after : Seen) (sent sent' : Option (List ℕ))
-    → PartsToGo parts [] start feed state' content frames before after sent sent' → RunsParts parts start feed state' content frames before after sent sent'
-RunsParts-end parts start feed state' content frames before after sent sent' go = record {
-  more = go.more;
-  kept = go.kept;
-  read = go.read;
-  keeps = go.keeps;
-  history = λ rest may. sym (append-nil after.history) ∙ sym (go.history rest may);
-  asked = λ rest may. go.asked rest may ∙ or-false (ended_in feed);
-} where
-  or-false : (b : Bool) → (b || false) ≡ b
-  or-false true = refl
-  or-false false = refl
+  -- one more part was run
+  pub PartsToGo-next : (part : Part) (others : List Part) (feed feed' : Option Feed) (state state' : ShelfState) (mid after : Seen) (first sent sent' : Option (List ℕ))
+      → (so_far : PartsToGo way parts (part ∷ others) start feed state content frames before mid first sent) → mid.limits ≡ before.limits
+      → RunsPart way part feed feed' state' content (frames ++ so_far.more) mid after sent sent'
+      → PartsToGo way parts others start feed' state' content frames before after first sent'
+  PartsToGo-next part others feed feed' state state' mid after first sent sent' so_far limits ran =
+      let more = ran.more in
+      let number = taken_in feed + 1 in
+      let may' = λ (rest : List Frame) (may : MayRemain (ended_in feed') rest) (ended : ended_in feed ≡ true).
+      let none = ran.none ended in no_more more rest (may none.1) ∙ none.0 in
+      record {
+        more = so_far.more ++ more;
+        kept = ran.kept ∙ so_far.kept;
+        read = subst (WasRead feed' state' content) (append_assoc frames so_far.more more) ran.read;
+        keeps = λ are. subst (λ fs. AreKept sent' (taken_in feed') fs after) (append_assoc frames so_far.more more) (ran.keeps (so_far.keeps are));
+        go = λ rest may es are.
+            let fs = more ++ rest in
+            let added = ran.adds rest may in
+            let one = added.entries in
+            let count : taken_in feed' + 1 ≡ number + length (taken_by part fs) =
+            let counted = ran.counted in omega (arith, ap length (ran.taken rest may)) in
+            let here : way before.limits number fs part mid.history one = subst (λ l. way l number fs part mid.history one) limits added.may in
+            let behind : AreRun way before.limits (number + length (taken_by part fs)) (left_by part fs) others (mid.history ++ one) es =
+            AreRun-as way others refl count (sym (ran.left rest may)) added.grows.history refl are in
+            let all = so_far.go fs (may' rest may) (one ++ es) (one, es, refl, here, behind) in (
+              all.0,
+              all.1 ∙ sym (append_assoc mid.history one es) ∙ ap (λ h. h ++ es) (sym added.grows.history),
+              subst (λ l. AreRun way before.limits (taken_in start + 1) l parts before.history all.0) (sym (append_assoc so_far.more more rest)) all.2,
+            );
+        asked = λ rest may.
+            let fs = more ++ rest in
+            ap (λ l. ended_in start || program_asks_stop parts l) (append_assoc so_far.more more rest)
+            ∙ so_far.asked fs (may' rest may)
+            ∙ or_assoc (ended_in feed) (part_asks_stop part fs) (program_asks_stop others (left_by part fs))
+            ∙ ap (λ b. b || program_asks_stop others (left_by part fs)) (ran.asked rest may)
+            ∙ ap (λ l. ended_in feed' || program_asks_stop others l) (ran.left rest may);
+      }
+
+  -- no part is left
+  pub RunsParts-end : (feed : Option Feed) (state' : ShelfState) (after : Seen) (sent sent' : Option (List ℕ))
+      → PartsToGo way parts [] start feed state' content frames before after sent sent' → RunsParts way parts start feed state' content frames before after sent sent'
+  RunsParts-end feed state' after sent sent' so_far = record {
+    more = so_far.more;
+    kept = so_far.kept;
+    read = so_far.read;
+    keeps = so_far.keeps;
+    history = λ rest may. let all = so_far.go rest may [] refl in (all.0, sym (append-nil after.history) ∙ sym all.1, all.2);
+    asked = λ rest may. so_far.asked rest may ∙ or-false (ended_in feed);
+  }

@@ -6,11 +6,12 @@ use Rattle.capture_files.specs.Capture.{Capture, capture}
 use Rattle.capture_files.specs.Record.{Frame}
 use Rattle.capture_files.specs.Reader.{rest_of, told}
 use Rattle.io_edges.specs.ShelfState.{ShelfState, SlotState}
+use Rattle.flow_rules.specs.declared.limits.Limits.{Limits}
+use Rattle.flow_calls.specs.declared.entry.Entry.{Entry}
 use Rattle.adapter.specs.Seen.{Seen}
 use Rattle.flow_grammar.specs.declared.part.Part.{Part}
 use Rattle.flow_grammar.specs.Program.{program_of}
 use Rattle.whole_history.specs.Reach.{has_phase, program_asks_stop}
-use Rattle.whole_history.specs.Serial.{serial_from}
 use Rattle.history_text.specs.declared.ending.Ending.{Ending}
 use Rattle.history_text.specs.declared.ending.Ending.TheVariants as endings
 use Rattle.testpmd_shell.specs.declared.feed.Feed.{Feed}
@@ -22,6 +23,8 @@ use Rattle.testpmd_shell.specs.Fetch.{Runs}
 use Rattle.capture_files.specs.Writing.{header_bytes}
 use Rattle.history_text.specs.Transmit.{records_of_entries, transmit_of}
 use Rattle.testpmd_shell.specs.Sending.{AreKept}
+use Rattle.testpmd_shell.specs.Ways.{AreRun, Way}
+use Rattle.testpmd_shell.proofs.WaysRun.{AreRun-as}
 
 -- What phases found of the capture: the frames that were taken, and what remains behind them.
 record Supplied (supply : Supply) (taken : List Frame) (ended : Bool) (ending : Ending) : Type 0 where
@@ -124,129 +127,131 @@ sends-kept given sent taken more rest all after limits same are = by sent are.re
       ∙ ap (λ l. records_of_entries l (more ++ rest) [] after.history) limits
       ∙ ap (λ fs. records_of_entries (limits_of given) fs [] after.history) (sym same))
 
--- with what phases found
-Runs-supplied : (given : Given) (script : List ℕ) (supply : Supply) (s t : ShelfState) (start : Option Feed) (feed : Option Feed) (content : List ℕ) (opened after : Seen) (none_sent sent : Option (List ℕ))
-    → opened.limits ≡ limits_of given → after.limits ≡ limits_of given → opened.history ≡ [] → taken_in start ≡ 0 → ended_in start ≡ false
-    → AreKept none_sent (taken_in start) [] opened → (ran : RunsParts (program_of script) start feed t content [] opened after none_sent sent)
-    → Supplied supply ran.more (ended_in feed) (ending_in feed) → (ending_in feed ≡ endings.Whole → t.capture.faults ≡ s.capture.faults)
-    → Runs given (record { script = script; capture = supply }) s t after sent (ending_in feed)
-Runs-supplied given script supply s t start feed content opened after none_sent sent limits limits' empty none running are ran found calm =
-    let program = program_of script in
-    let asks : program_asks_stop program supply.frames ≡ ended_in feed =
-    ap (program_asks_stop program) found.frames ∙ ap (λ b. b || program_asks_stop program (ran.more ++ found.rest)) (sym running) ∙ ran.asked found.rest found.may in
-    record {
-      history = ran.history found.rest found.may
-          ∙ ap (λ h. h ++ serial_from opened.limits (taken_in start + 1) (ran.more ++ found.rest) program h) empty
-          ∙ ap (λ l. serial_from l (taken_in start + 1) (ran.more ++ found.rest) program []) limits
-          ∙ ap (λ n. serial_from (limits_of given) (n + 1) (ran.more ++ found.rest) program []) none
-          ∙ ap (λ fs. serial_from (limits_of given) 1 fs program []) (sym found.frames);
-      ends = by (ended_in feed) refl asks;
-      asked = λ rose. by_asked (ended_in feed) refl asks rose;
-      sends = sends-kept given sent (taken_in feed) ran.more found.rest supply.frames after limits' found.frames (ran.keeps are);
-    } where
-      by : (b : Bool) → ended_in feed ≡ b → program_asks_stop (program_of script) supply.frames ≡ ended_in feed
-          → ending_in feed ≡ cond (program_asks_stop (program_of script) supply.frames) supply.ending endings.Whole
-      by true e asks = sym (found.behind e) ∙ sym (ap (λ b. cond b supply.ending endings.Whole) (asks ∙ e))
-      by false e asks = found.open_still e ∙ sym (ap (λ b. cond b supply.ending endings.Whole) (asks ∙ e))
+module _ (way : Way) (P : Limits → List Part → List Frame → List Entry → Type 0)
+    (whole : (limits : Limits) (program : List Part) (frames : List Frame) (history : List Entry) → AreRun way limits 1 frames program [] history → P limits program frames history) where
+  -- with what phases found
+  Runs-supplied : (given : Given) (script : List ℕ) (supply : Supply) (s t : ShelfState) (start : Option Feed) (feed : Option Feed) (content : List ℕ) (opened after : Seen) (none_sent sent : Option (List ℕ))
+      → opened.limits ≡ limits_of given → after.limits ≡ limits_of given → opened.history ≡ [] → taken_in start ≡ 0 → ended_in start ≡ false
+      → AreKept none_sent (taken_in start) [] opened → (ran : RunsParts way (program_of script) start feed t content [] opened after none_sent sent)
+      → Supplied supply ran.more (ended_in feed) (ending_in feed) → (ending_in feed ≡ endings.Whole → t.capture.faults ≡ s.capture.faults)
+      → Runs P given (record { script = script; capture = supply }) s t after sent (ending_in feed)
+  Runs-supplied given script supply s t start feed content opened after none_sent sent limits limits' empty none running are ran found calm =
+      let program = program_of script in
+      let asks : program_asks_stop program supply.frames ≡ ended_in feed =
+      ap (program_asks_stop program) found.frames ∙ ap (λ b. b || program_asks_stop program (ran.more ++ found.rest)) (sym running) ∙ ran.asked found.rest found.may in
+      let all = ran.history found.rest found.may in
+      let from_start : all.0 ≡ after.history = sym (all.1 ∙ ap (λ h. h ++ all.0) empty) in
+      record {
+        history = whole (limits_of given) program supply.frames after.history
+            (AreRun-as way program limits (ap (λ n. n + 1) none) (sym found.frames) empty from_start all.2);
+        ends = by (ended_in feed) refl asks;
+        asked = λ rose. by_asked (ended_in feed) refl asks rose;
+        sends = sends-kept given sent (taken_in feed) ran.more found.rest supply.frames after limits' found.frames (ran.keeps are);
+      } where
+        by : (b : Bool) → ended_in feed ≡ b → program_asks_stop (program_of script) supply.frames ≡ ended_in feed
+            → ending_in feed ≡ cond (program_asks_stop (program_of script) supply.frames) supply.ending endings.Whole
+        by true e asks = sym (found.behind e) ∙ sym (ap (λ b. cond b supply.ending endings.Whole) (asks ∙ e))
+        by false e asks = found.open_still e ∙ sym (ap (λ b. cond b supply.ending endings.Whole) (asks ∙ e))
 
-      by_asked : (b : Bool) → ended_in feed ≡ b → program_asks_stop (program_of script) supply.frames ≡ ended_in feed
-          → s.capture.faults < t.capture.faults → program_asks_stop (program_of script) supply.frames ≡ true
-      by_asked true e asks rose = asks ∙ e
-      by_asked false e asks rose = let same = calm (found.open_still e) in absurd (omega arith)
+        by_asked : (b : Bool) → ended_in feed ≡ b → program_asks_stop (program_of script) supply.frames ≡ ended_in feed
+            → s.capture.faults < t.capture.faults → program_asks_stop (program_of script) supply.frames ≡ true
+        by_asked true e asks rose = asks ∙ e
+        by_asked false e asks rose = let same = calm (found.open_still e) in absurd (omega arith)
 
--- without a capture
-Runs-without : (given : Given) (script : List ℕ) (s t : ShelfState) (opened after : Seen) (none_sent sent : Option (List ℕ))
-    → opened.limits ≡ limits_of given → after.limits ≡ limits_of given → opened.history ≡ []
-    → AreKept none_sent 0 [] opened → (ran : RunsParts (program_of script) None None t [] [] opened after none_sent sent) → t.capture.faults ≡ s.capture.faults
-    → Runs given (record { script = script; capture = no_supply }) s t after sent endings.Whole
-Runs-without given script s t opened after none_sent sent limits limits' empty are ran calm =
-    let program = program_of script in record {
-      history = ran.history [] (λ e. refl)
-          ∙ ap (λ h. h ++ serial_from opened.limits 1 (ran.more ++ []) program h) empty
-          ∙ ap (λ l. serial_from l 1 (ran.more ++ []) program []) limits
-          ∙ ap (λ fs. serial_from (limits_of given) 1 (fs ++ []) program []) ran.read;
-      ends = sym (cond-whole (program_asks_stop program []));
-      asked = λ rose. absurd (omega arith);
-      sends = sends-kept given sent 0 ran.more [] [] after limits' (sym ran.read ∙ sym (append-nil ran.more)) (ran.keeps are);
-    }
+  -- without a capture
+  Runs-without : (given : Given) (script : List ℕ) (s t : ShelfState) (opened after : Seen) (none_sent sent : Option (List ℕ))
+      → opened.limits ≡ limits_of given → after.limits ≡ limits_of given → opened.history ≡ []
+      → AreKept none_sent 0 [] opened → (ran : RunsParts way (program_of script) None None t [] [] opened after none_sent sent) → t.capture.faults ≡ s.capture.faults
+      → Runs P given (record { script = script; capture = no_supply }) s t after sent endings.Whole
+  Runs-without given script s t opened after none_sent sent limits limits' empty are ran calm =
+      let program = program_of script in
+      let all = ran.history [] (λ e. refl) in
+      let from_start : all.0 ≡ after.history = sym (all.1 ∙ ap (λ h. h ++ all.0) empty) in
+      let no_frames : ran.more ++ [] ≡ [] = append-nil ran.more ∙ ran.read in
+      record {
+        history = whole (limits_of given) program [] after.history (AreRun-as way program limits refl no_frames empty from_start all.2);
+        ends = sym (cond-whole (program_asks_stop program []));
+        asked = λ rose. absurd (omega arith);
+        sends = sends-kept given sent 0 ran.more [] [] after limits' (sym ran.read ∙ sym (append-nil ran.more)) (ran.keeps are);
+      }
 
--- where the capture's bytes are told
-runs-told : (given : Given) (script content : List ℕ) (supply : Supply) (s o t : ShelfState) (start : Feed) (feed : Option Feed) (opened after : Seen) (none_sent sent : Option (List ℕ))
-    → opened.limits ≡ limits_of given → after.limits ≡ limits_of given → opened.history ≡ [] → AreKept none_sent 0 [] opened → start.taken ≡ 0 → start.reader.ended ≡ false → HasRead start o.capture content []
-    → s.capture.faults < 2 ^ 64 - 1 → IsOpen feed t → IsFaultOf (ending_in feed) s.capture.faults t.capture.faults
-    → RunsParts (program_of script) (Some start) feed t content [] opened after none_sent sent
-    → supply_by (nat_lt s.capture.faults t.capture.faults) content t.capture.given ≡ Some supply
-    → Runs given (record { script = script; capture = supply }) s t after sent (ending_in feed)
-runs-told given script content supply s o t start None opened after none_sent sent limits limits' empty are none running has fresh ready fault ran is = absurd (never ran.kept) where
-  never : false ≡ true → ⊥
-  never e = cc
-runs-told given script content supply s o t start (Some feed) opened after none_sent sent limits limits' empty are none running has fresh ready fault ran is =
-    Runs-supplied given script supply s t (Some start) (Some feed) content opened after none_sent sent limits limits' empty none running
-    (subst (λ n. AreKept none_sent n [] opened) (sym none) are) ran
-    (supplied feed t.capture content ran.more s.capture.faults t.capture.faults supply ready.0 ran.read fresh fault is)
-    (λ whole. subst (λ ending. IsFaultOf ending s.capture.faults t.capture.faults) whole fault)
+  -- where the capture's bytes are told
+  runs-told : (given : Given) (script content : List ℕ) (supply : Supply) (s o t : ShelfState) (start : Feed) (feed : Option Feed) (opened after : Seen) (none_sent sent : Option (List ℕ))
+      → opened.limits ≡ limits_of given → after.limits ≡ limits_of given → opened.history ≡ [] → AreKept none_sent 0 [] opened → start.taken ≡ 0 → start.reader.ended ≡ false → HasRead start o.capture content []
+      → s.capture.faults < 2 ^ 64 - 1 → IsOpen feed t → IsFaultOf (ending_in feed) s.capture.faults t.capture.faults
+      → RunsParts way (program_of script) (Some start) feed t content [] opened after none_sent sent
+      → supply_by (nat_lt s.capture.faults t.capture.faults) content t.capture.given ≡ Some supply
+      → Runs P given (record { script = script; capture = supply }) s t after sent (ending_in feed)
+  runs-told given script content supply s o t start None opened after none_sent sent limits limits' empty are none running has fresh ready fault ran is = absurd (never ran.kept) where
+    never : false ≡ true → ⊥
+    never e = cc
+  runs-told given script content supply s o t start (Some feed) opened after none_sent sent limits limits' empty are none running has fresh ready fault ran is =
+      Runs-supplied given script supply s t (Some start) (Some feed) content opened after none_sent sent limits limits' empty none running
+      (subst (λ n. AreKept none_sent n [] opened) (sym none) are) ran
+      (supplied feed t.capture content ran.more s.capture.faults t.capture.faults supply ready.0 ran.read fresh fault is)
+      (λ whole. subst (λ ending. IsFaultOf ending s.capture.faults t.capture.faults) whole fault)
 
-IsRunOf : Given → List ℕ → ShelfState → ShelfState → Seen → Option (List ℕ) → Ending → Option Supply → Type 0
-IsRunOf given script s t after sent ending supply = IfSome (found_by (Some script) supply) (λ found. Runs given found s t after sent ending)
+  IsRunOf : Given → List ℕ → ShelfState → ShelfState → Seen → Option (List ℕ) → Ending → Option Supply → Type 0
+  IsRunOf given script s t after sent ending supply = IfSome (found_by (Some script) supply) (λ found. Runs P given found s t after sent ending)
 
-by-supply : (given : Given) (script content : List ℕ) (found : Option Supply) (s o t : ShelfState) (start : Feed) (feed : Option Feed) (opened after : Seen) (none_sent sent : Option (List ℕ))
-    → opened.limits ≡ limits_of given → after.limits ≡ limits_of given → opened.history ≡ [] → AreKept none_sent 0 [] opened → start.taken ≡ 0 → start.reader.ended ≡ false → HasRead start o.capture content []
-    → s.capture.faults < 2 ^ 64 - 1 → IsOpen feed t → IsFaultOf (ending_in feed) s.capture.faults t.capture.faults
-    → RunsParts (program_of script) (Some start) feed t content [] opened after none_sent sent
-    → supply_by (nat_lt s.capture.faults t.capture.faults) content t.capture.given ≡ found
-    → IsRunOf given script s t after sent (ending_in feed) found
-unfolding IsRunOf
-by-supply given script content None s o t start feed opened after none_sent sent limits limits' empty are none running has fresh ready fault ran is = tt
-by-supply given script content (Some supply) s o t start feed opened after none_sent sent limits limits' empty are none running has fresh ready fault ran is =
-    runs-told given script content supply s o t start feed opened after none_sent sent limits limits' empty are none running has fresh ready fault ran is
+  by-supply : (given : Given) (script content : List ℕ) (found : Option Supply) (s o t : ShelfState) (start : Feed) (feed : Option Feed) (opened after : Seen) (none_sent sent : Option (List ℕ))
+      → opened.limits ≡ limits_of given → after.limits ≡ limits_of given → opened.history ≡ [] → AreKept none_sent 0 [] opened → start.taken ≡ 0 → start.reader.ended ≡ false → HasRead start o.capture content []
+      → s.capture.faults < 2 ^ 64 - 1 → IsOpen feed t → IsFaultOf (ending_in feed) s.capture.faults t.capture.faults
+      → RunsParts way (program_of script) (Some start) feed t content [] opened after none_sent sent
+      → supply_by (nat_lt s.capture.faults t.capture.faults) content t.capture.given ≡ found
+      → IsRunOf given script s t after sent (ending_in feed) found
+  unfolding IsRunOf
+  by-supply given script content None s o t start feed opened after none_sent sent limits limits' empty are none running has fresh ready fault ran is = tt
+  by-supply given script content (Some supply) s o t start feed opened after none_sent sent limits limits' empty are none running has fresh ready fault ran is =
+      runs-told given script content supply s o t start feed opened after none_sent sent limits limits' empty are none running has fresh ready fault ran is
 
-by-content : (given : Given) (script name : List ℕ) (known : Option (List ℕ)) (s o' o t : ShelfState) (start feed : Option Feed) (opened after : Seen) (none_sent sent : Option (List ℕ))
-    → opened.limits ≡ limits_of given → after.limits ≡ limits_of given → opened.history ≡ [] → AreKept none_sent 0 [] opened → StartsOver (Some name) start o' o → o'.contents name ≡ known
-    → s.capture.faults < 2 ^ 64 - 1 → IsOpen feed t → IsFaultOf (ending_in feed) s.capture.faults t.capture.faults
-    → ((content : List ℕ) → (frames : List Frame) → WasRead start o content frames → RunsParts (program_of script) start feed t content frames opened after none_sent sent)
-    → IsRunOf given script s t after sent (ending_in feed) (option_and_then (λ bytes. supply_by (nat_lt s.capture.faults t.capture.faults) bytes t.capture.given) known)
-unfolding IsRunOf
-by-content given script name None s o' o t start feed opened after none_sent sent limits limits' empty are starts is fresh ready fault ran = tt
-by-content given script name (Some content) s o' o t None feed opened after none_sent sent limits limits' empty are starts is fresh ready fault ran = absurd starts
-by-content given script name (Some content) s o' o t (Some start) feed opened after none_sent sent limits limits' empty are starts is fresh ready fault ran =
-    by-supply given script content (supply_by (nat_lt s.capture.faults t.capture.faults) content t.capture.given) s o t start feed opened after none_sent sent limits limits' empty are starts.0 starts.2 (starts.3 content is)
-    fresh ready fault (ran content [] (starts.3 content is)) refl
+  by-content : (given : Given) (script name : List ℕ) (known : Option (List ℕ)) (s o t : ShelfState) (start feed : Option Feed) (opened after : Seen) (none_sent sent : Option (List ℕ))
+      → opened.limits ≡ limits_of given → after.limits ≡ limits_of given → opened.history ≡ [] → AreKept none_sent 0 [] opened → StartsOver (Some name) start s o → s.contents name ≡ known
+      → s.capture.faults < 2 ^ 64 - 1 → IsOpen feed t → IsFaultOf (ending_in feed) s.capture.faults t.capture.faults
+      → ((content : List ℕ) → (frames : List Frame) → WasRead start o content frames → RunsParts way (program_of script) start feed t content frames opened after none_sent sent)
+      → IsRunOf given script s t after sent (ending_in feed) (option_and_then (λ bytes. supply_by (nat_lt s.capture.faults t.capture.faults) bytes t.capture.given) known)
+  unfolding IsRunOf
+  by-content given script name None s o t start feed opened after none_sent sent limits limits' empty are starts is fresh ready fault ran = tt
+  by-content given script name (Some content) s o t None feed opened after none_sent sent limits limits' empty are starts is fresh ready fault ran = absurd starts
+  by-content given script name (Some content) s o t (Some start) feed opened after none_sent sent limits limits' empty are starts is fresh ready fault ran =
+      by-supply given script content (supply_by (nat_lt s.capture.faults t.capture.faults) content t.capture.given) s o t start feed opened after none_sent sent limits limits' empty are starts.0 starts.2 (starts.3 content is)
+      fresh ready fault (ran content [] (starts.3 content is)) refl
 
-by-none : (given : Given) (script : List ℕ) (s o' o t : ShelfState) (start feed : Option Feed) (opened after : Seen) (none_sent sent : Option (List ℕ))
-    → opened.limits ≡ limits_of given → after.limits ≡ limits_of given → opened.history ≡ [] → AreKept none_sent 0 [] opened → StartsOver None start o' o
-    → IsFaultOf (ending_in feed) s.capture.faults t.capture.faults
-    → ((content : List ℕ) → (frames : List Frame) → WasRead start o content frames → RunsParts (program_of script) start feed t content frames opened after none_sent sent)
-    → IsRunOf given script s t after sent (ending_in feed) (Some no_supply)
-unfolding IsRunOf
-by-none given script s o' o t (Some start) feed opened after none_sent sent limits limits' empty are starts fault ran = absurd starts
-by-none given script s o' o t None None opened after none_sent sent limits limits' empty are starts fault ran =
-    Runs-without given script s t opened after none_sent sent limits limits' empty are (ran [] [] refl) fault
-by-none given script s o' o t None (Some feed) opened after none_sent sent limits limits' empty are starts fault ran = absurd (never (ran [] [] refl).kept) where
-  never : true ≡ false → ⊥
-  never e = cc
+  by-none : (given : Given) (script : List ℕ) (s o t : ShelfState) (start feed : Option Feed) (opened after : Seen) (none_sent sent : Option (List ℕ))
+      → opened.limits ≡ limits_of given → after.limits ≡ limits_of given → opened.history ≡ [] → AreKept none_sent 0 [] opened → StartsOver None start s o
+      → IsFaultOf (ending_in feed) s.capture.faults t.capture.faults
+      → ((content : List ℕ) → (frames : List Frame) → WasRead start o content frames → RunsParts way (program_of script) start feed t content frames opened after none_sent sent)
+      → IsRunOf given script s t after sent (ending_in feed) (Some no_supply)
+  unfolding IsRunOf
+  by-none given script s o t (Some start) feed opened after none_sent sent limits limits' empty are starts fault ran = absurd starts
+  by-none given script s o t None None opened after none_sent sent limits limits' empty are starts fault ran =
+      Runs-without given script s t opened after none_sent sent limits limits' empty are (ran [] [] refl) fault
+  by-none given script s o t None (Some feed) opened after none_sent sent limits limits' empty are starts fault ran = absurd (never (ran [] [] refl).kept) where
+    never : true ≡ false → ⊥
+    never e = cc
 
-by-name : (given : Given) (script : List ℕ) (name : Option (List ℕ)) (s o' o t : ShelfState) (start feed : Option Feed) (opened after : Seen) (none_sent sent : Option (List ℕ))
-    → opened.limits ≡ limits_of given → after.limits ≡ limits_of given → opened.history ≡ [] → AreKept none_sent 0 [] opened → o'.contents ≡ s.contents → StartsOver name start o' o
-    → s.capture.faults < 2 ^ 64 - 1 → IsOpen feed t → IsFaultOf (ending_in feed) s.capture.faults t.capture.faults
-    → ((content : List ℕ) → (frames : List Frame) → WasRead start o content frames → RunsParts (program_of script) start feed t content frames opened after none_sent sent)
-    → IsRunOf given script s t after sent (ending_in feed) (supply_in name s t)
-by-name given script None s o' o t start feed opened after none_sent sent limits limits' empty are same starts fresh ready fault ran =
-    by-none given script s o' o t start feed opened after none_sent sent limits limits' empty are starts fault ran
-by-name given script (Some name) s o' o t start feed opened after none_sent sent limits limits' empty are same starts fresh ready fault ran =
-    by-content given script name (s.contents name) s o' o t start feed opened after none_sent sent limits limits' empty are starts (ap (λ (c : List ℕ → Option (List ℕ)). c name) same) fresh ready fault ran
+  by-name : (given : Given) (script : List ℕ) (name : Option (List ℕ)) (s o t : ShelfState) (start feed : Option Feed) (opened after : Seen) (none_sent sent : Option (List ℕ))
+      → opened.limits ≡ limits_of given → after.limits ≡ limits_of given → opened.history ≡ [] → AreKept none_sent 0 [] opened → StartsOver name start s o
+      → s.capture.faults < 2 ^ 64 - 1 → IsOpen feed t → IsFaultOf (ending_in feed) s.capture.faults t.capture.faults
+      → ((content : List ℕ) → (frames : List Frame) → WasRead start o content frames → RunsParts way (program_of script) start feed t content frames opened after none_sent sent)
+      → IsRunOf given script s t after sent (ending_in feed) (supply_in name s t)
+  by-name given script None s o t start feed opened after none_sent sent limits limits' empty are starts fresh ready fault ran =
+      by-none given script s o t start feed opened after none_sent sent limits limits' empty are starts fault ran
+  by-name given script (Some name) s o t start feed opened after none_sent sent limits limits' empty are starts fresh ready fault ran =
+      by-content given script name (s.contents name) s o t start feed opened after none_sent sent limits limits' empty are starts refl fresh ready fault ran
 
--- the run of the files that the options name: `o'` is the shelf behind the script, `o` that behind the capture's opening
-pub HasRun-runs : (given : Given) (known : Option (List ℕ)) (s o' o t : ShelfState) (program : List Part) (start feed : Option Feed) (opened after : Seen) (none_sent sent : Option (List ℕ))
-    → opened.limits ≡ limits_of given → after.limits ≡ limits_of given → opened.history ≡ [] → AreKept none_sent 0 [] opened → IfSome known (λ bytes. program ≡ program_of bytes)
-    → o'.contents ≡ s.contents → StartsOver given.capture start o' o
-    → s.capture.faults < 2 ^ 64 - 1 → IsOpen feed t → IsFaultOf (ending_in feed) s.capture.faults t.capture.faults
-    → ((content : List ℕ) → (frames : List Frame) → WasRead start o content frames → RunsParts program start feed t content frames opened after none_sent sent)
-    → IfSome (found_by known (supply_in given.capture s t)) (λ found. Runs given found s t after sent (ending_in feed))
-unfolding IsRunOf
-HasRun-runs given None s o' o t program start feed opened after none_sent sent limits limits' empty are is same starts fresh ready fault ran = tt
-HasRun-runs given (Some script) s o' o t program start feed opened after none_sent sent limits limits' empty are is same starts fresh ready fault ran =
-    by-name given script given.capture s o' o t start feed opened after none_sent sent limits limits' empty are same starts fresh ready fault
-    (λ content frames was. subst (λ (p : List Part). RunsParts p start feed t content frames opened after none_sent sent) is (ran content frames was))
+  -- the run of the files that the options name: `o` is the shelf behind their openings
+  pub HasRun-runs : (given : Given) (known : Option (List ℕ)) (s o t : ShelfState) (program : List Part) (start feed : Option Feed) (opened after : Seen) (none_sent sent : Option (List ℕ))
+      → opened.limits ≡ limits_of given → after.limits ≡ limits_of given → opened.history ≡ [] → AreKept none_sent 0 [] opened → IfSome known (λ bytes. program ≡ program_of bytes)
+      → StartsOver given.capture start s o
+      → s.capture.faults < 2 ^ 64 - 1 → IsOpen feed t → IsFaultOf (ending_in feed) s.capture.faults t.capture.faults
+      → ((content : List ℕ) → (frames : List Frame) → WasRead start o content frames → RunsParts way program start feed t content frames opened after none_sent sent)
+      → IfSome (found_by known (supply_in given.capture s t)) (λ found. Runs P given found s t after sent (ending_in feed))
+  unfolding IsRunOf
+  HasRun-runs given None s o t program start feed opened after none_sent sent limits limits' empty are is starts fresh ready fault ran = tt
+  HasRun-runs given (Some script) s o t program start feed opened after none_sent sent limits limits' empty are is starts fresh ready fault ran =
+      by-name given script given.capture s o t start feed opened after none_sent sent limits limits' empty are starts fresh ready fault
+      (λ content frames was. subst (λ (p : List Part). RunsParts way p start feed t content frames opened after none_sent sent) is (ran content frames was))
 
 -- a capture that was just opened hasn't ended
 whole-start : (name : Option (List ℕ)) (start : Option Feed) (s t : ShelfState) → StartsOver name start s t → ending_in start ≡ endings.Whole
@@ -255,10 +260,10 @@ whole-start None (Some feed) s t starts = absurd starts
 whole-start (Some name) None s t starts = absurd starts
 whole-start (Some name) (Some feed) s t starts = starts.1
 
-pub HasRun-fault : (name : Option (List ℕ)) (start feed : Option Feed) (s t : ShelfState) (base before now : ℕ) → StartsOver name start s t → before ≡ base
-    → CarriesFault (ending_in start) (ending_in feed) before now → IsFaultOf (ending_in feed) base now
-HasRun-fault name start feed s t base before now starts same carries =
-    carries base (subst (λ ending. IsFaultOf ending base before) (sym (whole-start name start s t starts)) same)
+pub HasRun-fault : (name : Option (List ℕ)) (start : Option Feed) (ending : Ending) (s t : ShelfState) (base before now : ℕ) → StartsOver name start s t → before ≡ base
+    → CarriesFault (ending_in start) ending before now → IsFaultOf ending base now
+HasRun-fault name start ending s t base before now starts same carries =
+    carries base (subst (λ (e : Ending). IsFaultOf e base before) (sym (whole-start name start s t starts)) same)
 
 -- a script within its limits isn't over them
 pub within-sized : (known : Option (List ℕ)) (X : Type 0) → IfSome known (λ script. is_over script ≡ false) → IfSome known (λ script. is_over script ≡ true → X)

@@ -1,7 +1,10 @@
 -- When a script has too many bytes, lines or calls.
-use Rattle.std.proofs.Common.{◌≡◌, ℕ, ◌≤◌, true, false, List, length, nat_lt, Option, None, Some, IfSome, subst}
+use Rattle.std.proofs.Common.{◌≡◌, ℕ, ◌≤◌, Bool, true, false, ◌||◌, List, length, nat_lt, Option, None, Some, IfSome, subst, arith}
+use Rattle.std.proofs.lemmas.Bool.Decides.{nat_tests}
 use Rattle.std.proofs.lemmas.Bool.{or_from, or_left, or_right, lt-ltb, le-ltb}
-use Rattle.flow_grammar.specs.Limits.{is_too_large}
+use Rattle.flow_grammar.specs.Lines.{lines_of}
+use Rattle.flow_grammar.specs.Limits.{calls_in, is_too_large}
+use Rattle.flow_grammar.specs.Program.{program_of}
 use Rattle.testpmd_shell.specs.declared.fetch.Stopped.{Stopped}
 use Rattle.testpmd_shell.specs.declared.fetch.Stopped.TheVariants as stopped
 use Rattle.testpmd_shell.specs.Found.{is_over}
@@ -35,3 +38,10 @@ is_over-read (Some bytes) script same short small = subst (λ (b : List ℕ). is
 pub IsOver-read : (content : Option (List ℕ)) (script : List ℕ) → IfSome content (λ bytes. script ≡ bytes) → is_too_large script ≡ true → IfSome content IsOver
 IsOver-read None script same large = tt
 IsOver-read (Some bytes) script same large = subst IsOver same (IsOver-large script large)
+
+-- a script that isn't too large has few calls
+pub few-fits : (script : List ℕ) → is_too_large script ≡ false → calls_in (program_of script) ≤ 65536
+few-fits script small = by (nat_lt 65536 (length (lines_of script))) (calls_in (program_of script)) small where
+  by : (long : Bool) (calls : ℕ) → (long || nat_lt 65536 calls) ≡ false → calls ≤ 65536
+  by true calls e = cc
+  by false calls e = grind (arith, nat_tests)

@@ -24,7 +24,7 @@ use Rattle.testpmd_shell.specs.Run.{Edges, early_faults}
 use Rattle.testpmd_shell.specs.Found.{Found, Supply, found_by, found_in, supply_in, limits_of, is_over, ending_of, status_at, due_status}
 use Rattle.testpmd_shell.specs.Transmitted.{opened_empty, IsAsOpened, IsOpened, WasOpened, TookJust, TookFront}
 use Rattle.testpmd_shell.specs.Fetch.{Runs, HasRun, StaysOpen, TakesAll, TakesSome, CutsTranscript, CutsFile, IsTold}
-use Rattle.testpmd_shell.specs.Session.{IsSerial, AreWritesCalm, IsEndOf, Wrote, IsStatusOf, Tells, Ends, AsksForNone, IsWhy, SaysBy, CompletesBy, IsReadBy, IsTooLargeBy}
+use Rattle.testpmd_shell.specs.Session.{AreWritesCalm, IsEndOf, Wrote, IsStatusOf, Tells, Ends, AsksForNone, IsWhy, IsSizedFirst, SaysBy, CompletesBy, IsReadBy, IsTooLargeBy}
 
 IfSome-weaker : {X : Type 0} (o : Option X) (P Q : X → Type 0) → ((x : X) → P x → Q x) → IfSome o P → IfSome o Q
 IfSome-weaker None P Q weaker p = tt
@@ -137,11 +137,11 @@ same-text given found adapter ending limits same = ap (λ l. text_of l adapter.h
 not-more : {X : Type 0} (m n : ℕ) → n ≡ m → m < n → X
 not-more m n same more = absurd (omega arith)
 
-ends-whole : (given : Given) (before : Edges) (t : ShelfState) (w : WrittenState) (taken : Option (List ℕ)) (faults : ℕ) (adapter : Seen) (sent : Option (List ℕ)) (ending : Ending)
-    → before.shelf.capture.faults < 2 ^ 64 - 1 → HasRun given before.shelf t adapter sent ending → faults ≡ before.faults
+ends-whole : (P : Limits → List Part → List Frame → List Entry → Type 0) (given : Given) (before : Edges) (t : ShelfState) (w : WrittenState) (taken : Option (List ℕ)) (faults : ℕ) (adapter : Seen) (sent : Option (List ℕ)) (ending : Ending)
+    → before.shelf.capture.faults < 2 ^ 64 - 1 → HasRun P given before.shelf t adapter sent ending → faults ≡ before.faults
     → Appends before.taken taken (text_of adapter.limits adapter.history ending) → TakesAll sent t.written w
-    → Ends IsSerial given before (edges_behind t w taken faults) (status_at ending)
-ends-whole given before t w taken faults adapter sent ending fresh ran calm wrote takes =
+    → Ends P given before (edges_behind t w taken faults) (status_at ending)
+ends-whole P given before t w taken faults adapter sent ending fresh ran calm wrote takes =
     let s = before.shelf in
     let after = edges_behind t w taken faults in
     let told = told-all given.transmit sent s.written t.written w ran.opened ran.keeps takes in
@@ -151,9 +151,9 @@ ends-whole given before t w taken faults adapter sent ending fresh ran calm wrot
       opened = told.0;
       cause = end-of ending before after fresh ran.fault (record { sink = calm; file = told.1 });
       unsent = λ rose. not-more before.faults faults calm rose;
-      tells = found-behind given s t w (λ found. Tells IsSerial given found before after (status_at ending))
-          (IfSome-weaker (found_in given s t) (λ found. Runs given found s t adapter sent ending)
-          (λ found. Tells IsSerial given found before after (status_at ending))
+      tells = found-behind given s t w (λ found. Tells P given found before after (status_at ending))
+          (IfSome-weaker (found_in given s t) (λ found. Runs P given found s t adapter sent ending)
+          (λ found. Tells P given found before after (status_at ending))
           (λ found runs. record {
             history = adapter.history;
             is = runs.history;
@@ -166,11 +166,11 @@ ends-whole given before t w taken faults adapter sent ending fresh ran calm wrot
     }
 
 -- a write of the sink failed
-ends-front : (given : Given) (before : Edges) (t : ShelfState) (w : WrittenState) (taken : Option (List ℕ)) (faults : ℕ) (adapter : Seen) (sent : Option (List ℕ)) (ending : Ending)
-    → HasRun given before.shelf t adapter sent ending
+ends-front : (P : Limits → List Part → List Frame → List Entry → Type 0) (given : Given) (before : Edges) (t : ShelfState) (w : WrittenState) (taken : Option (List ℕ)) (faults : ℕ) (adapter : Seen) (sent : Option (List ℕ)) (ending : Ending)
+    → HasRun P given before.shelf t adapter sent ending
     → CutsTranscript (text_of adapter.limits adapter.history ending) before.taken taken before.faults faults t.written w
-    → Ends IsSerial given before (edges_behind t w taken faults) status.WriteFault
-ends-front given before t w taken faults adapter sent ending ran cuts =
+    → Ends P given before (edges_behind t w taken faults) status.WriteFault
+ends-front P given before t w taken faults adapter sent ending ran cuts =
     let s = before.shelf in
     let after = edges_behind t w taken faults in
     let opened = subst (IsAsOpened given.transmit s.written) (sym cuts.2) ran.opened in
@@ -180,9 +180,9 @@ ends-front given before t w taken faults adapter sent ending ran cuts =
       opened = as-opened given.transmit s.written w opened;
       cause = inl cuts.0;
       unsent = λ rose. opened;
-      tells = found-behind given s t w (λ found. Tells IsSerial given found before after status.WriteFault)
-          (IfSome-weaker (found_in given s t) (λ found. Runs given found s t adapter sent ending)
-          (λ found. Tells IsSerial given found before after status.WriteFault)
+      tells = found-behind given s t w (λ found. Tells P given found before after status.WriteFault)
+          (IfSome-weaker (found_in given s t) (λ found. Runs P given found s t adapter sent ending)
+          (λ found. Tells P given found before after status.WriteFault)
           (λ found runs. record {
             history = adapter.history;
             is = runs.history;
@@ -196,11 +196,11 @@ ends-front given before t w taken faults adapter sent ending ran cuts =
     }
 
 -- a write of the transmit file failed
-ends-file : (given : Given) (before : Edges) (t : ShelfState) (w : WrittenState) (taken : Option (List ℕ)) (faults : ℕ) (adapter : Seen) (sent : Option (List ℕ)) (ending : Ending)
-    → HasRun given before.shelf t adapter sent ending
+ends-file : (P : Limits → List Part → List Frame → List Entry → Type 0) (given : Given) (before : Edges) (t : ShelfState) (w : WrittenState) (taken : Option (List ℕ)) (faults : ℕ) (adapter : Seen) (sent : Option (List ℕ)) (ending : Ending)
+    → HasRun P given before.shelf t adapter sent ending
     → CutsFile (text_of adapter.limits adapter.history ending) sent before.taken taken before.faults faults t.written w
-    → Ends IsSerial given before (edges_behind t w taken faults) status.WriteFault
-ends-file given before t w taken faults adapter sent ending ran cuts =
+    → Ends P given before (edges_behind t w taken faults) status.WriteFault
+ends-file P given before t w taken faults adapter sent ending ran cuts =
     let s = before.shelf in
     let after = edges_behind t w taken faults in
     let told = told-some given.transmit sent s.written t.written w ran.opened ran.keeps cuts.2 in
@@ -210,9 +210,9 @@ ends-file given before t w taken faults adapter sent ending ran cuts =
       opened = told.0;
       cause = inr (cuts.0, told.1);
       unsent = λ rose. not-more before.faults faults cuts.0 rose;
-      tells = found-behind given s t w (λ found. Tells IsSerial given found before after status.WriteFault)
-          (IfSome-weaker (found_in given s t) (λ found. Runs given found s t adapter sent ending)
-          (λ found. Tells IsSerial given found before after status.WriteFault)
+      tells = found-behind given s t w (λ found. Tells P given found before after status.WriteFault)
+          (IfSome-weaker (found_in given s t) (λ found. Runs P given found s t adapter sent ending)
+          (λ found. Tells P given found before after status.WriteFault)
           (λ found runs. record {
             history = adapter.history;
             is = runs.history;
@@ -229,29 +229,29 @@ ends-file given before t w taken faults adapter sent ending ran cuts =
     }
 
 -- what was told with that status
-pub Ends-told : (given : Given) (before : Edges) (t : ShelfState) (w : WrittenState) (taken : Option (List ℕ)) (faults : ℕ) (adapter : Seen) (sent : Option (List ℕ)) (ending : Ending) (answer : Status)
-    → before.shelf.capture.faults < 2 ^ 64 - 1 → HasRun given before.shelf t adapter sent ending
+pub Ends-told : (P : Limits → List Part → List Frame → List Entry → Type 0) (given : Given) (before : Edges) (t : ShelfState) (w : WrittenState) (taken : Option (List ℕ)) (faults : ℕ) (adapter : Seen) (sent : Option (List ℕ)) (ending : Ending) (answer : Status)
+    → before.shelf.capture.faults < 2 ^ 64 - 1 → HasRun P given before.shelf t adapter sent ending
     → IsTold adapter sent ending before.taken taken before.faults faults t.written w answer
-    → Ends IsSerial given before (edges_behind t w taken faults) answer
-Ends-told given before t w taken faults adapter sent ending status.WriteFault fresh ran (inl cuts) = ends-front given before t w taken faults adapter sent ending ran cuts
-Ends-told given before t w taken faults adapter sent ending status.WriteFault fresh ran (inr cuts) = ends-file given before t w taken faults adapter sent ending ran cuts
-Ends-told given before t w taken faults adapter sent ending status.Done fresh ran told =
-    subst (Ends IsSerial given before (edges_behind t w taken faults)) (sym told.0) (ends-whole given before t w taken faults adapter sent ending fresh ran told.1 told.2 told.3)
-Ends-told given before t w taken faults adapter sent ending status.Usage fresh ran told =
-    subst (Ends IsSerial given before (edges_behind t w taken faults)) (sym told.0) (ends-whole given before t w taken faults adapter sent ending fresh ran told.1 told.2 told.3)
-Ends-told given before t w taken faults adapter sent ending status.ReadFault fresh ran told =
-    subst (Ends IsSerial given before (edges_behind t w taken faults)) (sym told.0) (ends-whole given before t w taken faults adapter sent ending fresh ran told.1 told.2 told.3)
-Ends-told given before t w taken faults adapter sent ending status.BadCapture fresh ran told =
-    subst (Ends IsSerial given before (edges_behind t w taken faults)) (sym told.0) (ends-whole given before t w taken faults adapter sent ending fresh ran told.1 told.2 told.3)
-Ends-told given before t w taken faults adapter sent ending status.TooLarge fresh ran told =
-    subst (Ends IsSerial given before (edges_behind t w taken faults)) (sym told.0) (ends-whole given before t w taken faults adapter sent ending fresh ran told.1 told.2 told.3)
-Ends-told given before t w taken faults adapter sent ending status.NoMemory fresh ran told =
-    subst (Ends IsSerial given before (edges_behind t w taken faults)) (sym told.0) (ends-whole given before t w taken faults adapter sent ending fresh ran told.1 told.2 told.3)
+    → Ends P given before (edges_behind t w taken faults) answer
+Ends-told P given before t w taken faults adapter sent ending status.WriteFault fresh ran (inl cuts) = ends-front P given before t w taken faults adapter sent ending ran cuts
+Ends-told P given before t w taken faults adapter sent ending status.WriteFault fresh ran (inr cuts) = ends-file P given before t w taken faults adapter sent ending ran cuts
+Ends-told P given before t w taken faults adapter sent ending status.Done fresh ran told =
+    subst (Ends P given before (edges_behind t w taken faults)) (sym told.0) (ends-whole P given before t w taken faults adapter sent ending fresh ran told.1 told.2 told.3)
+Ends-told P given before t w taken faults adapter sent ending status.Usage fresh ran told =
+    subst (Ends P given before (edges_behind t w taken faults)) (sym told.0) (ends-whole P given before t w taken faults adapter sent ending fresh ran told.1 told.2 told.3)
+Ends-told P given before t w taken faults adapter sent ending status.ReadFault fresh ran told =
+    subst (Ends P given before (edges_behind t w taken faults)) (sym told.0) (ends-whole P given before t w taken faults adapter sent ending fresh ran told.1 told.2 told.3)
+Ends-told P given before t w taken faults adapter sent ending status.BadCapture fresh ran told =
+    subst (Ends P given before (edges_behind t w taken faults)) (sym told.0) (ends-whole P given before t w taken faults adapter sent ending fresh ran told.1 told.2 told.3)
+Ends-told P given before t w taken faults adapter sent ending status.TooLarge fresh ran told =
+    subst (Ends P given before (edges_behind t w taken faults)) (sym told.0) (ends-whole P given before t w taken faults adapter sent ending fresh ran told.1 told.2 told.3)
+Ends-told P given before t w taken faults adapter sent ending status.NoMemory fresh ran told =
+    subst (Ends P given before (edges_behind t w taken faults)) (sym told.0) (ends-whole P given before t w taken faults adapter sent ending fresh ran told.1 told.2 told.3)
 
 -- ---- what an answer says of more histories
 
-pub SaysBy-weaker : (P Q : Limits → List Part → List Frame → List Entry → Type 0)
-    → ((limits : Limits) (program : List Part) (frames : List Frame) (history : List Entry) → P limits program frames history → Q limits program frames history)
+pub SaysBy-weaker : (P Q : Given → Limits → List Part → List Frame → List Entry → Type 0)
+    → ((given : Given) (limits : Limits) (program : List Part) (frames : List Frame) (history : List Entry) → P given limits program frames history → Q given limits program frames history)
     → (given : Option Given) (before after : Edges) (answer : Status) → SaysBy P given before after answer → SaysBy Q given before after answer
 SaysBy-weaker P Q weaker None before after answer says = says
 SaysBy-weaker P Q weaker (Some given) before after answer (inl ends) = inl (record {
@@ -260,10 +260,10 @@ SaysBy-weaker P Q weaker (Some given) before after answer (inl ends) = inl (reco
   opened = ends.opened;
   cause = ends.cause;
   unsent = ends.unsent;
-  tells = IfSome-weaker (found_in given before.shelf after.shelf) (λ found. Tells P given found before after answer) (λ found. Tells Q given found before after answer)
+  tells = IfSome-weaker (found_in given before.shelf after.shelf) (λ found. Tells (P given) given found before after answer) (λ found. Tells (Q given) given found before after answer)
       (λ found tells. record {
         history = tells.history;
-        is = weaker (limits_of given) (program_of found.script) found.capture.frames tells.history tells.is;
+        is = weaker given (limits_of given) (program_of found.script) found.capture.frames tells.history tells.is;
         written = tells.written;
         due = tells.due;
         asked = tells.asked;
@@ -271,13 +271,40 @@ SaysBy-weaker P Q weaker (Some given) before after answer (inl ends) = inl (reco
 })
 SaysBy-weaker P Q weaker (Some given) before after answer (inr stops) = inr stops
 
+-- ---- an answer
+
+-- behind a run
+pub SaysBy-told : (P : Given → Limits → List Part → List Frame → List Entry → Type 0) (given : Given) (before : Edges) (t u : ShelfState) (taken : Option (List ℕ)) (faults : ℕ)
+    (adapter : Seen) (sent : Option (List ℕ)) (ending : Ending) (answer : Status)
+    → before.shelf.capture.faults < 2 ^ 64 - 1 → HasRun (P given) given before.shelf t adapter sent ending
+    → IsTold adapter sent ending before.taken taken before.faults faults t.written u.written answer → u ≡ record t { written = u.written }
+    → SaysBy P (Some given) before (record { shelf = u; taken = taken; faults = faults }) answer
+SaysBy-told P given before t u taken faults adapter sent ending answer fresh ran told others =
+    inl (subst (λ (shelf : ShelfState). Ends (P given) given before (record { shelf = shelf; taken = taken; faults = faults }) answer) (sym others)
+    (Ends-told (P given) given before t u.written taken faults adapter sent ending answer fresh ran told))
+
+-- where no history came
+pub SaysBy-stopped : (P : Given → Limits → List Part → List Frame → List Entry → Type 0) (given : Given) (before : Edges) (t : ShelfState) (answer : Status)
+    → IsWhy given before.shelf t answer → IsSizedFirst given before.shelf t → SaysBy P (Some given) before (record { shelf = t; taken = before.taken; faults = before.faults }) answer
+SaysBy-stopped P given before t answer why sized = inr (record { unwritten = refl; calm = refl; why = why; sized = sized })
+
+-- with options it isn't that the words give none
+never-usage : (given : Given) (before after : Edges) (answer : Status) → answer ≡ status.Usage → IsEndOf before after answer ⊎ IsWhy given before.shelf after.shelf answer → ⊥
+never-usage given before after answer is (inl cause) = subst (IsEndOf before after) is cause
+never-usage given before after answer is (inr why) = subst (IsWhy given before.shelf after.shelf) is why
+
+pub SaysBy-usage : (P : Given → Limits → List Part → List Frame → List Entry → Type 0) (given : Given) (before after : Edges) (answer : Status)
+    → SaysBy P (Some given) before after answer → answer ≡ status.Usage → ⊥
+SaysBy-usage P given before after answer (inl ends) is = never-usage given before after answer is (inl ends.cause)
+SaysBy-usage P given before after answer (inr stops) is = never-usage given before after answer is (inr stops.why)
+
 -- ---- no memory to tell what the words give
 
 IfSome-always : {X : Type 0} (o : Option X) (P : X → Type 0) → ((x : X) → P x) → IfSome o P
 IfSome-always None P p = tt
 IfSome-always (Some x) P p = p x
 
-pub SaysBy-no_memory : (P : Limits → List Part → List Frame → List Entry → Type 0) (given : Option Given) (edges : Edges) → SaysBy P given edges edges status.NoMemory
+pub SaysBy-no_memory : (P : Given → Limits → List Part → List Frame → List Entry → Type 0) (given : Option Given) (edges : Edges) → SaysBy P given edges edges status.NoMemory
 SaysBy-no_memory P None edges = (inr refl, refl)
 SaysBy-no_memory P (Some given) edges = inr (record {
   unwritten = refl;
@@ -360,11 +387,11 @@ completes-stop given before after status.TooLarge why calm files =
 completes-stop given before after status.NoMemory why calm files = no-memory (found_in given before.shelf after.shelf)
 
 -- with no failed call the status is the one that the files owe, or there was no memory
-pub CompletesBy-says : (P : Limits → List Part → List Frame → List Entry → Type 0) (given : Option Given) (before after : Edges) (answer : Status)
+pub CompletesBy-says : (P : Given → Limits → List Part → List Frame → List Entry → Type 0) (given : Option Given) (before after : Edges) (answer : Status)
     → SaysBy P given before after answer → CompletesBy given before after answer
 unfolding Owes
 CompletesBy-says P None before after answer says = tt
-CompletesBy-says P (Some given) before after answer (inl ends) = λ calm files written. completes-end P given before after answer ends files written
+CompletesBy-says P (Some given) before after answer (inl ends) = λ calm files written. completes-end (P given) given before after answer ends files written
 CompletesBy-says P (Some given) before after answer (inr stops) = λ calm files written. completes-stop given before after answer stops.why calm files
 
 -- a script over its limits
@@ -383,7 +410,7 @@ apart b e f = absurd (never e f) where
   never : b ≡ false → b ≡ true → ⊥
   never e f = cc
 
-pub IsTooLargeBy-says : (P : Limits → List Part → List Frame → List Entry → Type 0) (given : Option Given) (before after : Edges) (answer : Status)
+pub IsTooLargeBy-says : (P : Given → Limits → List Part → List Frame → List Entry → Type 0) (given : Option Given) (before after : Edges) (answer : Status)
     → SaysBy P given before after answer → IsTooLargeBy given before.shelf after.shelf answer
 IsTooLargeBy-says P None before after answer says = tt
 IsTooLargeBy-says P (Some given) before after answer (inl ends) =

@@ -1,13 +1,10 @@
 -- Why no history came, out of what opening and reading the files says.
-use Rattle.std.proofs.Common.{◌≡◌, ℕ, ◌+◌, ◌<◌, true, false, List, Option, None, Some, IfSome, sym, ap, ◌∙◌, subst, arith, inl, inr}
-use Rattle.io_edges.specs.declared.shelf.Slot.TheVariants.{Capture}
-use Rattle.io_edges.specs.Lent.{KeepsSlot}
+use Rattle.std.proofs.Common.{◌≡◌, ℕ, ◌+◌, ◌<◌, true, false, List, Option, None, Some, IfSome, ap, ◌∙◌, subst, arith, inl, inr}
 use Rattle.io_edges.specs.ShelfState.{ShelfState, SlotState, WrittenState}
 use Rattle.flow_grammar.specs.Program.{program_of}
 use Rattle.whole_history.specs.Reach.{has_phase}
 use Rattle.testpmd_shell.specs.declared.fetch.Stopped.{Stopped}
 use Rattle.testpmd_shell.specs.declared.fetch.Stopped.TheVariants as stopped
-use Rattle.testpmd_shell.specs.declared.status.Status.TheVariants as status
 use Rattle.testpmd_shell.specs.Options.{Given}
 use Rattle.testpmd_shell.specs.Run.{early_faults}
 use Rattle.testpmd_shell.specs.Found.{is_over}
@@ -38,7 +35,7 @@ reads-same given s t same =
     told (s.contents given.script) (λ script. has_phase (program_of script) ≡ false → t.capture.faults ≡ s.capture.faults) (λ script none. same)
 
 -- what follows from the openings behind the script
-behind-script : (s s1 t : ShelfState) → early_faults s1 ≡ early_faults s → OthersThanBoth s1 t → t.open_faults ≡ s1.open_faults → early_faults t ≡ early_faults s
+pub behind-script : (s s1 t : ShelfState) → early_faults s1 ≡ early_faults s → OthersThanBoth s1 t → t.open_faults ≡ s1.open_faults → early_faults t ≡ early_faults s
 behind-script s s1 t calm others same =
     ap (λ n. n + t.script.faults) same ∙ ap (λ (slot : SlotState). s1.open_faults + slot.faults) others.script ∙ calm
 
@@ -61,12 +58,3 @@ IsWhy-files given s s1 t stopped.WriteFault calm script stop both faults =
 IsWhy-files given s s1 t stopped.TooLarge calm script stop both faults = absurd stop
 IsWhy-files given s s1 t stopped.NoMemory calm script stop both faults =
     (behind-script s s1 t calm both stop.0, inr (subst (λ w. IsAsOpened given.transmit w t.written) script.written stop.1))
-
--- there was no memory for the run
-pub IsWhy-memory : (given : Given) (s s1 s2 t : ShelfState) → early_faults s1 ≡ early_faults s → OthersThanScript s s1 → OthersThanBoth s1 s2 → s2.open_faults ≡ s1.open_faults
-    → IsAsOpened given.transmit s1.written s2.written → KeepsSlot Capture s2 t → IsWhy given s t status.NoMemory
-IsWhy-memory given s s1 s2 t calm script both same opened keeps = (
-  ap early_faults keeps.others ∙ behind-script s s1 s2 calm both same,
-  inr (subst (λ w. IsAsOpened given.transmit w t.written) script.written
-      (subst (λ w. IsAsOpened given.transmit s1.written w) (sym (ap (λ (shelf : ShelfState). shelf.written) keeps.others)) opened)),
-)

@@ -1,21 +1,30 @@
 -- What opening and reading the files says, and the run behind it.
-use Rattle.std.specs.Prelude.{◌≡◌, ℕ, ◌<◌, ◌++◌, true, false, List, length, Option, None, Some, IfSome, is_some, ◌⊎◌}
+use Rattle.std.specs.Prelude.{◌≡◌, ℕ, ◌<◌, ◌≤◌, ◌++◌, true, false, List, [], length, Option, None, Some, IfSome, is_some, ◌⊎◌, if◌then◌else◌}
 use Rattle.std.specs.Io.KnownBytes.{Appends}
 use Rattle.io_edges.specs.Front.{TakesFront}
 use Rattle.io_edges.specs.ShelfState.{ShelfState, WrittenState}
 use Rattle.capture_files.specs.Writing.{header_bytes}
 use Rattle.history_text.specs.Text.{text_of}
 use Rattle.history_text.specs.Transmit.{transmit_of}
+use Rattle.capture_files.specs.Record.{Frame}
+use Rattle.io_edges.specs.Lent.{KeepsSlot}
+use Rattle.io_edges.specs.declared.shelf.Slot.TheVariants as slots
+use Rattle.flow_rules.specs.declared.limits.Limits.{Limits}
+use Rattle.flow_calls.specs.declared.entry.Entry.{Entry}
 use Rattle.adapter.specs.Seen.{Seen}
+use Rattle.flow_grammar.specs.declared.part.Part.{Part}
+use Rattle.flow_grammar.specs.Limits.{calls_in}
 use Rattle.flow_grammar.specs.Program.{program_of}
-use Rattle.whole_history.specs.Serial.{serial}
 use Rattle.history_text.specs.declared.ending.Ending.{Ending}
 use Rattle.testpmd_shell.specs.declared.fetch.Stopped.{Stopped}
 use Rattle.testpmd_shell.specs.declared.fetch.Stopped.TheVariants as stopped
 use Rattle.testpmd_shell.specs.declared.status.Status.{Status}
 use Rattle.testpmd_shell.specs.declared.status.Status.TheVariants as status
 use Rattle.testpmd_shell.specs.Options.{Given}
-use Rattle.testpmd_shell.specs.Feed.{IsFaultOf}
+use Rattle.testpmd_shell.specs.declared.feed.Feed.{Feed}
+use Rattle.testpmd_shell.specs.Feed.{IsFaultOf, CarriesFault}
+use Rattle.testpmd_shell.specs.Parts.{IsOpen, WasRead, RunsParts, StartsOver, ending_in}
+use Rattle.testpmd_shell.specs.Ways.{Way}
 use Rattle.testpmd_shell.specs.Run.{early_faults}
 use Rattle.testpmd_shell.specs.Found.{Found, found_in, limits_of, is_over, asks_for_more, ending_of, status_at}
 use Rattle.testpmd_shell.specs.Transmitted.{IsAsOpened}
@@ -81,22 +90,48 @@ status_of_stop stopped.WriteFault = status.WriteFault
 status_of_stop stopped.TooLarge = status.TooLarge
 status_of_stop stopped.NoMemory = status.NoMemory
 
--- The run of these files: its history is the serial one, its ending that of the capture, and what is kept is what it sends.
-pub record Runs (given : Given) (found : Found) (s t : ShelfState) (adapter : Seen) (sent : Option (List ℕ)) (ending : Ending) : Type 0 where
-  pub history : adapter.history ≡ serial (limits_of given) (program_of found.script) found.capture.frames
+-- The run of these files: its history is one of those, its ending that of the capture, and what is kept is what it sends.
+pub record Runs (histories : Limits → List Part → List Frame → List Entry → Type 0) (given : Given) (found : Found) (s t : ShelfState) (adapter : Seen) (sent : Option (List ℕ)) (ending : Ending) : Type 0 where
+  pub history : histories (limits_of given) (program_of found.script) found.capture.frames adapter.history
   pub ends : ending ≡ ending_of found
   pub asked : s.capture.faults < t.capture.faults → asks_for_more found ≡ true
   pub sends : IfSome sent (λ bytes. header_bytes ++ bytes ≡ transmit_of (limits_of given) found.capture.frames adapter.history)
 
+-- The script was read, and the other files that are named are open.
+pub record HasOpened (given : Given) (s o : ShelfState) (program : List Part) (feed : Option Feed) : Type 0 where
+  pub calm : early_faults o ≡ early_faults s
+  pub within : IfSome (s.contents given.script) (λ script. is_over script ≡ false)
+  pub reads : IfSome (s.contents given.script) (λ script. program ≡ program_of script)
+  pub few : calls_in program ≤ 65536
+  pub open_feed : IsOpen feed o
+  pub starts : StartsOver given.capture feed s o
+  pub written : IsAsOpened given.transmit s.written o.written
+  pub faults : o.capture.faults ≡ s.capture.faults
+
+-- The parts of a program were run in that way, from the opened files on.
+pub record HasFinished (way : Way) (given : Given) (program : List Part) (start : Option Feed) (o t : ShelfState) (adapter : Seen) (sent : Option (List ℕ)) (ending : Ending) : Type 0 where
+  pub feed : Option Feed
+  pub opened : Seen
+  pub none_sent : Option (List ℕ)
+  pub open_feed : IsOpen feed t
+  pub ends : ending ≡ ending_in feed
+  pub opening : (opened.limits ≡ limits_of given) × (opened.history ≡ [])
+  pub empty : none_sent ≡ (if is_some given.transmit then Some [] else None)
+  pub limits : adapter.limits ≡ limits_of given
+  pub keeps : is_some sent ≡ is_some given.transmit
+  pub fault : CarriesFault (ending_in start) ending o.capture.faults t.capture.faults
+  pub others : KeepsSlot slots.Capture o t
+  pub runs : (content : List ℕ) → (frames : List Frame) → WasRead start o content frames → RunsParts way program start feed t content frames opened adapter none_sent sent
+
 -- A script was run to its end.
-pub record HasRun (given : Given) (s t : ShelfState) (adapter : Seen) (sent : Option (List ℕ)) (ending : Ending) : Type 0 where
+pub record HasRun (histories : Limits → List Part → List Frame → List Entry → Type 0) (given : Given) (s t : ShelfState) (adapter : Seen) (sent : Option (List ℕ)) (ending : Ending) : Type 0 where
   pub calm : early_faults t ≡ early_faults s
   pub within : IfSome (s.contents given.script) (λ script. is_over script ≡ false)
   pub limits : adapter.limits ≡ limits_of given
   pub fault : IsFaultOf ending s.capture.faults t.capture.faults
   pub opened : IsAsOpened given.transmit s.written t.written
   pub keeps : is_some sent ≡ is_some given.transmit
-  pub runs : IfSome (found_in given s t) (λ found. Runs given found s t adapter sent ending)
+  pub runs : IfSome (found_in given s t) (λ found. Runs histories given found s t adapter sent ending)
 
 -- the written file stays open, and no further opening is counted
 pub record StaysOpen (old new : WrittenState) : Type 0 where

@@ -9,5 +9,7 @@ pub mod Session
 pub mod Feed
 pub mod Sending
 pub mod Phase
+pub mod Ways
 pub mod Parts
+pub mod Workers
 pub mod Fetch

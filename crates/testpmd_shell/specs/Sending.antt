@@ -5,24 +5,21 @@ use Rattle.std.specs.Option.{option_map}
 use Rattle.std.specs.List.{flat_map}
 use Rattle.packet_headers.specs.Layers.{layers}
 use Rattle.capture_files.specs.Record.{Frame}
-use Rattle.capture_files.specs.Writing.{record_bytes}
 use Rattle.flow_rules.specs.Walk.{Flows, verdict_of}
 use Rattle.adapter.specs.Seen.{Seen}
 use Rattle.port_state.specs.State.{flows_of, state_of}
 use Rattle.history_text.specs.Transmit.{delivered, records_of_entries}
 use Rattle.testpmd_shell.specs.declared.feed.Arrived.{Arrived}
-use Rattle.testpmd_shell.specs.declared.sent.Sent.{Sent}
+use Rattle.running_phase.specs.declared.copies.FrameCopy.{FrameCopy}
+use Rattle.running_phase.specs.Copies.{record_of}
 use Rattle.testpmd_shell.specs.declared.lead.Lead.{Lead}
 use Rattle.testpmd_shell.specs.Feed.{frame_in}
 
-abbrev pub record_of : Sent → List ℕ
-record_of sent = record_bytes sent.stamp sent.wire_len sent.bytes.items
-
-abbrev pub records_of : List Sent → List ℕ
+abbrev pub records_of : List FrameCopy → List ℕ
 records_of kept = flat_map record_of kept
 
 -- the records of what is kept, where frames are kept
-abbrev pub records_kept : Option (Vec Sent Global) → Option (List ℕ)
+abbrev pub records_kept : Option (Vec FrameCopy Global) → Option (List ℕ)
 records_kept kept = option_map (λ list. records_of list.items) kept
 
 abbrev pub kept_in : Lead → Option (List ℕ)

@@ -1,5 +1,5 @@
 -- What a session says: each status with its cause, and what was written.
-use Rattle.std.specs.Prelude.{◌≡◌, ℕ, ◌-◌, ◌^◌, ◌<◌, true, false, List, Option, None, Some, IfSome, IsTrue, ⊤, ◌⊎◌}
+use Rattle.std.specs.Prelude.{◌≡◌, ℕ, ◌-◌, ◌^◌, ◌<◌, ◌==◌, true, false, List, Option, None, Some, IfSome, IsTrue, ⊤, ◌⊎◌, if◌then◌else◌}
 use Rattle.std.specs.Io.KnownBytes.{Appends}
 use Rattle.io_edges.specs.declared.shelf.Slot.TheVariants as slots
 use Rattle.io_edges.specs.ShelfState.{ShelfState, read_faults, write_faults}
@@ -48,15 +48,19 @@ abbrev pub Allows : Option Given → ShelfState → Type 0
 Allows None state = ⊤
 Allows (Some given) state = IsTrue (state.allows_read slots.Script given.script) × AllowsCapture given.capture state × AllowsTransmit given.transmit state
 
--- ---- which histories a session may print, for its limits, its program and the frames of its capture
+-- ---- which histories a session may print, for its options, its limits, its program and the frames of its capture
 
 -- the serial history
-abbrev pub IsSerial : Limits → List Part → List Frame → List Entry → Type 0
-IsSerial limits program frames history = history ≡ serial limits program frames
+abbrev pub IsSerial : Given → Limits → List Part → List Frame → List Entry → Type 0
+IsSerial given limits program frames history = history ≡ serial limits program frames
 
--- a legal history that is whole with one worker
-abbrev pub IsLegalAndWhole : Limits → List Part → List Frame → List Entry → Type 0
-IsLegalAndWhole limits program frames history = IsLegal limits history × IsWhole 1 program 1 frames history
+-- the workers of a session: one for the serial order too
+abbrev pub workers_of : Given → ℕ
+workers_of given = if given.cores == 0 then 1 else given.cores
+
+-- a legal history that is whole with these workers
+abbrev pub IsLegalAndWhole : Given → Limits → List Part → List Frame → List Entry → Type 0
+IsLegalAndWhole given limits program frames history = IsLegal limits history × IsWhole (workers_of given) program 1 frames history
 
 -- ---- a run that came to its end
 
@@ -153,12 +157,12 @@ pub record Stops (given : Given) (before after : Edges) (answer : Status) : Type
 -- ---- all answers
 
 -- where the words give no options, which takes memory to tell, nothing is opened, read or written
-abbrev pub SaysBy : (Limits → List Part → List Frame → List Entry → Type 0) → Option Given → Edges → Edges → Status → Type 0
+abbrev pub SaysBy : (Given → Limits → List Part → List Frame → List Entry → Type 0) → Option Given → Edges → Edges → Status → Type 0
 SaysBy histories None before after answer = ((answer ≡ status.Usage) ⊎ (answer ≡ status.NoMemory)) × (after ≡ before)
-SaysBy histories (Some given) before after answer = Ends histories given before after answer ⊎ Stops given before after answer
+SaysBy histories (Some given) before after answer = Ends (histories given) given before after answer ⊎ Stops given before after answer
 
 -- what an answer says of a run
-abbrev pub Says : (Limits → List Part → List Frame → List Entry → Type 0) → Run → Status → Type 0
+abbrev pub Says : (Given → Limits → List Part → List Frame → List Entry → Type 0) → Run → Status → Type 0
 Says histories run answer = SaysBy histories (options_of run.words) run.before run.after answer
 
 -- ---- what follows

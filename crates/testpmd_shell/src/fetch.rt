@@ -3,27 +3,28 @@ ghost use Rattle.std.specs.Prelude.{◌≡◌, ◌≤◌, ◌<◌, ◌-◌, ◌^
 ghost use Rattle.io_edges.specs.ShelfState.{ShelfState};
 ghost use Rattle.capture_files.specs.Record.{Frame};
 ghost use Rattle.testpmd_shell.specs.Options.{given_of};
-ghost use Rattle.testpmd_shell.specs.Sending.{kept_in};
-ghost use Rattle.testpmd_shell.specs.Session.{IsFresh, Allows, AllowsCapture, AllowsTransmit, IsWhy, IsSizedFirst, IsReadBy};
+ghost use Rattle.testpmd_shell.specs.Sending.{records_kept};
+ghost use Rattle.testpmd_shell.specs.Session.{IsFresh, Allows, AllowsCapture, AllowsTransmit, IsWhy, IsSizedFirst, IsReadBy, IsSerial, IsLegalAndWhole};
 ghost use Rattle.testpmd_shell.specs.Run.{early_faults};
 ghost use Rattle.testpmd_shell.specs.Transmitted.{IsAsOpened};
-ghost use Rattle.testpmd_shell.specs.Fetch.{IsScriptStop, IsLong, IsOver, IsOpeningStop, IsWritingStop, IsFilesStop, OthersThanScript, OthersThanCapture, OthersThanBoth, HasRun, status_of_stop};
-ghost use Rattle.testpmd_shell.specs.Parts.{IsOpen, WasRead, ending_in, taken_in, ended_in, StartsOver};
+ghost use Rattle.testpmd_shell.specs.Fetch.{IsScriptStop, IsLong, IsOver, IsOpeningStop, IsWritingStop, IsFilesStop, OthersThanScript, OthersThanCapture, OthersThanBoth, HasOpened, HasRun, status_of_stop};
+ghost use Rattle.testpmd_shell.specs.Parts.{IsOpen, StartsOver};
 ghost use Rattle.testpmd_shell.specs.Found.{limits_of, is_over};
 ghost use Rattle.flow_rules.specs.Limits.{AreLimits};
 ghost use Rattle.flow_grammar.specs.Program.{program_of};
+ghost use Rattle.flow_grammar.specs.Limits.{calls_in};
 
 use crate::MAX_SCRIPT;
 use crate::feed::Feed;
-use crate::lead::Lead;
 use crate::options::Options;
-use crate::parts::run_parts;
+use crate::run::{Ran, run, run_on_threads};
 use capture_files::{CaptureReader, MAX_FRAME_LEN};
 use flow_grammar::{Program, ProgramFault, program};
-use flow_rules::Limits;
 use history_text::Ending;
-use io_edges::{ReadAll, Shelf, Slot, SlotSource, read_all};
+use io_edges::{Gate, ReadAll, Shelf, Slot, SlotSource, read_all};
 use std::alloc::{AllocError, Global};
+use std::sync::Wait;
+use std::thread::Threads;
 
 /// Why no history came.
 #[derive(Clone, Copy)]
@@ -42,13 +43,6 @@ impl From<AllocError> for Stopped {
     fn from(_error: AllocError) -> Stopped {
         Stopped::NoMemory
     }
-}
-
-/// A script that was run to its end: the lead worker with the history and the frames that it kept, and how the capture ended.
-#[derive(Drop)]
-pub(crate) struct Ran {
-    pub(crate) lead: Lead,
-    pub(crate) ending: Ending,
 }
 
 /// Opens the script and reads it to its end.
@@ -84,6 +78,7 @@ fn read_program<S: Shelf>(alloc: Global, shelf: &mut S, name: &str) -> Result<Pr
     requires allowed { IsTrue ((S.state shelf.old).allows_read Slot.Script name.now) }
     ensures program { IfOk result (λ program. IfSome ((S.state shelf.old).contents name.now) (λ bytes. program ≡ program_of bytes)) }
     ensures within { OnOk result (IfSome ((S.state shelf.old).contents name.now) (λ bytes. is_over bytes ≡ false)) }
+    ensures few { IfOk result (λ program. calls_in program ≤ 65536) }
     ensures calm { OnOk result (early_faults (S.state shelf.new) ≡ early_faults (S.state shelf.old)) }
     ensures openings { OnOk result ((S.state shelf.new).open_faults ≡ (S.state shelf.old).open_faults) }
     ensures stopped { IfErr result (IsScriptStop IsOver ((S.state shelf.old).contents name.now) (early_faults (S.state shelf.old)) (early_faults (S.state shelf.new))) }
@@ -173,27 +168,32 @@ fn open_both<S: Shelf>(
     }
 }
 
-/// Whether a file is named.
-fn is_named(name: Option<&str>) -> bool
-    ensures { result ≡ is_some (option_copied name.entry) }
-{
-    match name {
-        Some(_) => true,
-        None => false,
-    }
+/// The program of the script, and the capture, where one is named.
+#[derive(Drop)]
+pub(crate) struct Opened {
+    pub(crate) program: Program,
+    pub(crate) feed: Option<Feed>,
 }
 
-/// How the capture ended, if there is one.
-fn ending_of(feed: &Option<Feed>) -> Ending
-    ensures { result ≡ ending_in feed.now }
+/// Reads the script, and opens the other files that the options name.
+fn open_all<S: Shelf>(
+    alloc: Global,
+    options: &Options<'_>,
+    shelf: &mut S,
+) -> Result<Opened, Stopped>
+    requires fresh { IsFresh (S.state shelf.old) }
+    requires allowed { Allows (Some (given_of options.now)) (S.state shelf.old) }
+    ensures opened { IfOk result (λ opened. HasOpened (given_of options.now) (S.state shelf.old) (S.state shelf.new) opened.program opened.feed) }
+    ensures why { IfErr result (λ why. IsWhy (given_of options.now) (S.state shelf.old) (S.state shelf.new) (status_of_stop why)) }
+    ensures sized { IsSizedFirst (given_of options.now) (S.state shelf.old) (S.state shelf.new) }
+    ensures reads { (S.state shelf.new).capture.faults ≡ (S.state shelf.old).capture.faults }
 {
-    match feed {
-        Some(feed) => feed.ending,
-        None => Ending::Whole,
-    }
+    let program = read_program(alloc, shelf, options.script)?;
+    let feed = open_both(alloc, shelf, options.transmit, options.capture)?;
+    Ok(Opened { program, feed })
 }
 
-/// Reads the files that the options name, and runs the script.
+/// Reads the files that the options name, and runs the script in the serial order.
 pub(crate) fn fetch<S: Shelf>(
     alloc: Global,
     options: &Options<'_>,
@@ -202,21 +202,38 @@ pub(crate) fn fetch<S: Shelf>(
     requires fresh { IsFresh (S.state shelf.old) }
     requires allowed { Allows (Some (given_of options.now)) (S.state shelf.old) }
     requires limits { AreLimits (limits_of (given_of options.now)) }
-    ensures ran { IfOk result (λ ran. HasRun (given_of options.now) (S.state shelf.old) (S.state shelf.new) ran.lead.adapter (kept_in ran.lead) ran.ending) }
+    ensures ran { IfOk result (λ ran. HasRun (IsSerial (given_of options.now)) (given_of options.now) (S.state shelf.old) (S.state shelf.new) ran.adapter (records_kept ran.kept) ran.ending) }
     ensures why { IfErr result (λ why. IsWhy (given_of options.now) (S.state shelf.old) (S.state shelf.new) (status_of_stop why)) }
     ensures sized { IsSizedFirst (given_of options.now) (S.state shelf.old) (S.state shelf.new) }
     ensures reads { IsReadBy (Some (given_of options.now)) (S.state shelf.old) (S.state shelf.new) }
 {
-    let program = read_program(alloc, shelf, options.script)?;
-    let mut feed = open_both(alloc, shelf, options.transmit, options.capture)?;
-    let limits = Limits {
-        rxq: options.rxq,
-        flow_max: options.flow_max,
-    };
-    let mut lead = Lead::new(alloc, limits, is_named(options.transmit))?;
-    let Ok(()) = run_parts(&mut lead, program.as_slice(), shelf, &mut feed) else {
+    let Opened { program, feed } = open_all(alloc, options, shelf)?;
+    let Ok(ran) = run(alloc, options, program.as_slice(), shelf, feed) else {
         return Err(Stopped::NoMemory);
     };
-    let ending = ending_of(&feed);
-    Ok(Ran { lead, ending })
+    Ok(ran)
+}
+
+/// Reads the files that the options name, and runs the script, each phase on threads.
+pub(crate) fn fetch_on_threads<R: Threads + Wait + Sync, S: Shelf, G: Gate + Sync>(
+    rt: &R,
+    gate: &G,
+    alloc: Global,
+    options: &Options<'_>,
+    shelf: &mut S,
+) -> Result<Ran, Stopped>
+    requires fresh { IsFresh (S.state shelf.old) }
+    requires allowed { Allows (Some (given_of options.now)) (S.state shelf.old) }
+    requires limits { AreLimits (limits_of (given_of options.now)) }
+    requires workers { (1 ≤ options.now.cores) × (options.now.cores ≤ 16) }
+    ensures ran { IfOk result (λ ran. HasRun (IsLegalAndWhole (given_of options.now)) (given_of options.now) (S.state shelf.old) (S.state shelf.new) ran.adapter (records_kept ran.kept) ran.ending) }
+    ensures why { IfErr result (λ why. IsWhy (given_of options.now) (S.state shelf.old) (S.state shelf.new) (status_of_stop why)) }
+    ensures sized { IsSizedFirst (given_of options.now) (S.state shelf.old) (S.state shelf.new) }
+    ensures reads { IsReadBy (Some (given_of options.now)) (S.state shelf.old) (S.state shelf.new) }
+{
+    let Opened { program, feed } = open_all(alloc, options, shelf)?;
+    let Ok(ran) = run_on_threads(rt, gate, alloc, options, program.as_slice(), shelf, feed) else {
+        return Err(Stopped::NoMemory);
+    };
+    Ok(ran)
 }

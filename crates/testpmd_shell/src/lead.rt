@@ -12,16 +12,17 @@ ghost use Rattle.history_text.specs.Transmit.{delivered, record_behind};
 ghost use Rattle.whole_history.specs.Serial.{caller_at};
 ghost use Rattle.testpmd_shell.specs.Feed.{frame_in};
 ghost use Rattle.testpmd_shell.specs.Phase.{parcel_at};
-ghost use Rattle.testpmd_shell.specs.Sending.{record_of, records_kept, kept_in, flows_now, sent_by};
+ghost use Rattle.running_phase.specs.Copies.{record_of};
+ghost use Rattle.testpmd_shell.specs.Sending.{records_kept, kept_in, flows_now, sent_by};
 
 use crate::feed::Arrived;
-use crate::sent::Sent;
 use adapter::Adapter;
 use flow_actions::{Fate, Verdict};
 use flow_calls::{Caller, Parcel};
 use flow_rules::Limits;
 use packet_headers::{Key, parse};
 use replica::Replica;
+use running_phase::FrameCopy;
 use std::alloc::{AllocError, Global};
 
 /// The adapter with its history, a copy of what packets see, and the frames that go out, where a transmit file was asked for.
@@ -29,7 +30,7 @@ use std::alloc::{AllocError, Global};
 pub(crate) struct Lead {
     pub(crate) adapter: Adapter,
     pub(crate) replica: Replica,
-    pub(crate) kept: Option<Vec<Sent>>,
+    pub(crate) kept: Option<Vec<FrameCopy>>,
     alloc: Global,
 }
 
@@ -104,7 +105,7 @@ fn catch_up(adapter: &Adapter, replica: &mut Replica) -> Result<(), AllocError>
 fn keep(
     alloc: Global,
     replica: &Replica,
-    kept: &mut Option<Vec<Sent>>,
+    kept: &mut Option<Vec<FrameCopy>>,
     verdict: &Verdict,
     parcel: &Parcel,
     arrived: Arrived,
@@ -136,7 +137,7 @@ fn edited(
     parcel: &Parcel,
     arrived: Arrived,
     frame: &[u8],
-) -> Result<Sent, AllocError>
+) -> Result<FrameCopy, AllocError>
     requires walked { verdict.now ≡ verdict_of replica.now.flows parcel.now.key }
     requires within { LieWithin 0 (length frame.now) parcel.now.key }
     requires short { length frame.now ≤ 262_144 }
@@ -144,7 +145,7 @@ fn edited(
 {
     let mut bytes = Vec::from_slice(alloc, frame)?;
     replica.rewrite_by(&parcel.key, verdict, &mut bytes);
-    Ok(Sent {
+    Ok(FrameCopy {
         number: parcel.number,
         wire_len: arrived.wire_len,
         stamp: arrived.stamp,

@@ -87,7 +87,8 @@ pub(crate) fn queues(text: Option<&str>) -> Option<u8>
 
 /// The number of workers.
 pub(crate) fn cores(text: Option<&str>) -> Option<u8>
-    ensures { result ≡ cores_of (option_copied text.entry) }
+    ensures number { result ≡ cores_of (option_copied text.entry) }
+    ensures range { IfSome result (λ cores. cores ≤ 16) }
 {
     let number = number_or(1, 0, MAX_CORES, text)?;
     Some(number as u8)

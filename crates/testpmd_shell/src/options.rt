@@ -10,7 +10,7 @@ pub(crate) struct Options<'a> {
     pub(crate) transmit: Option<&'a str>,
     /// The number of Rx queues.
     pub(crate) rxq: u8,
-    /// The number of workers. Each session takes the serial order, whatever it is.
+    /// The number of workers, or 0 for the serial order.
     pub(crate) cores: u8,
     /// How many rules may be in effect.
     pub(crate) flow_max: u32,

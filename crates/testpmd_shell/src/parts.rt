@@ -10,7 +10,9 @@ ghost use Rattle.adapter.specs.Seen.{Grows};
 ghost use Rattle.flow_port.specs.Standing.{Stands};
 ghost use Rattle.testpmd_shell.specs.Feed.{CarriesFault};
 ghost use Rattle.testpmd_shell.specs.Sending.{kept_in};
-ghost use Rattle.testpmd_shell.specs.Parts.{IsOpen, WasRead, TakesIn, RunsPart, RunsParts, ending_in};
+ghost use Rattle.testpmd_shell.specs.Parts.{IsOpen, WasRead, TakesIn, RunsPart, RunsParts, ending_in, taken_in};
+ghost use Rattle.testpmd_shell.specs.Phase.{AreEntered};
+ghost use Rattle.testpmd_shell.specs.Ways.{serially};
 
 use crate::ask::{ask_agents, ask_all};
 use crate::feed::Feed;
@@ -23,7 +25,7 @@ use io_edges::{Shelf, Slot};
 use std::alloc::AllocError;
 
 /// Asks one call as the shell.
-fn ask(adapter: &mut Adapter, call: &Call) -> Result<(), AllocError>
+pub(crate) fn ask(adapter: &mut Adapter, call: &Call) -> Result<(), AllocError>
     ensures asks { OnOk result (Grows adapter.old adapter.new (asks_of adapter.old.limits 0 (call.now ∷ []) adapter.old.history)) }
     ensures limits { adapter.new.limits ≡ adapter.old.limits }
 {
@@ -42,7 +44,7 @@ fn take_frames<S: Shelf>(
     requires stands { Stands lead.old.adapter.limits lead.old.adapter.history lead.old.replica }
     ensures open { IsOpen feed.new (S.state shelf.new) }
     ensures takes { OnOk result ((content : List ℕ) → (frames : List Frame) → WasRead feed.old (S.state shelf.old) content frames
-        → TakesIn count feed.old feed.new (S.state shelf.new) content frames lead.old.adapter lead.new.adapter (kept_in lead.old) (kept_in lead.new)) }
+        → TakesIn (AreEntered (taken_in feed.old) frames lead.old.adapter lead.new.adapter (kept_in lead.old) (kept_in lead.new)) count feed.old feed.new (S.state shelf.new) content frames) }
     ensures fault { CarriesFault (ending_in feed.old) (ending_in feed.new) (S.state shelf.old).capture.faults (S.state shelf.new).capture.faults }
     ensures stands { OnOk result (Stands lead.new.adapter.limits lead.new.adapter.history lead.new.replica) }
     ensures kept { OnOk result (is_some (kept_in lead.new) ≡ is_some (kept_in lead.old)) }
@@ -66,7 +68,7 @@ fn run_part<S: Shelf>(
     requires stands { Stands lead.old.adapter.limits lead.old.adapter.history lead.old.replica }
     ensures open { IsOpen feed.new (S.state shelf.new) }
     ensures runs { OnOk result ((content : List ℕ) → (frames : List Frame) → WasRead feed.old (S.state shelf.old) content frames
-        → RunsPart part.now feed.old feed.new (S.state shelf.new) content frames lead.old.adapter lead.new.adapter (kept_in lead.old) (kept_in lead.new)) }
+        → RunsPart serially part.now feed.old feed.new (S.state shelf.new) content frames lead.old.adapter lead.new.adapter (kept_in lead.old) (kept_in lead.new)) }
     ensures fault { CarriesFault (ending_in feed.old) (ending_in feed.new) (S.state shelf.old).capture.faults (S.state shelf.new).capture.faults }
     ensures stands { OnOk result (Stands lead.new.adapter.limits lead.new.adapter.history lead.new.replica) }
     ensures kept { OnOk result (is_some (kept_in lead.new) ≡ is_some (kept_in lead.old)) }
@@ -103,7 +105,7 @@ pub(crate) fn run_parts<S: Shelf>(
     requires stands { Stands lead.old.adapter.limits lead.old.adapter.history lead.old.replica }
     ensures open { IsOpen feed.new (S.state shelf.new) }
     ensures runs { OnOk result ((content : List ℕ) → (frames : List Frame) → WasRead feed.old (S.state shelf.old) content frames
-        → RunsParts program.now feed.old feed.new (S.state shelf.new) content frames lead.old.adapter lead.new.adapter (kept_in lead.old) (kept_in lead.new)) }
+        → RunsParts serially program.now feed.old feed.new (S.state shelf.new) content frames lead.old.adapter lead.new.adapter (kept_in lead.old) (kept_in lead.new)) }
     ensures fault { CarriesFault (ending_in feed.old) (ending_in feed.new) (S.state shelf.old).capture.faults (S.state shelf.new).capture.faults }
     ensures stands { OnOk result (Stands lead.new.adapter.limits lead.new.adapter.history lead.new.replica) }
     ensures kept { OnOk result (is_some (kept_in lead.new) ≡ is_some (kept_in lead.old)) }

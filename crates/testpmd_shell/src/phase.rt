@@ -6,7 +6,7 @@ ghost use Rattle.io_edges.specs.Lent.{KeepsSlot};
 ghost use Rattle.io_edges.specs.LentLaws.{KeepsSlot-none};
 ghost use Rattle.flow_port.specs.Standing.{Stands};
 ghost use Rattle.testpmd_shell.specs.Feed.{IsReady, HasRead, CarriesFault};
-ghost use Rattle.testpmd_shell.specs.Phase.{is_spent, one_less, Takes};
+ghost use Rattle.testpmd_shell.specs.Phase.{is_spent, one_less, AreEntered, Takes};
 ghost use Rattle.testpmd_shell.specs.Sending.{kept_in};
 
 use crate::feed::{Feed, next_frame};
@@ -15,7 +15,7 @@ use io_edges::{Shelf, Slot};
 use std::alloc::AllocError;
 
 /// Whether a phase has taken all frames that it counts.
-fn spent(left: Option<u32>) -> bool
+pub(crate) fn spent(left: Option<u32>) -> bool
     ensures { result ≡ is_spent left }
 {
     match left {
@@ -25,7 +25,7 @@ fn spent(left: Option<u32>) -> bool
 }
 
 /// The count behind one more frame.
-fn behind_one(left: Option<u32>) -> Option<u32>
+pub(crate) fn behind_one(left: Option<u32>) -> Option<u32>
     requires { is_spent left ≡ false }
     ensures { result ≡ one_less left }
 {
@@ -47,7 +47,7 @@ pub(crate) fn pass_frames<S: Shelf>(
     requires stands { Stands lead.old.adapter.limits lead.old.adapter.history lead.old.replica }
     ensures ready { IsReady feed.new }
     ensures takes { OnOk result ((content : List ℕ) → (frames : List Frame) → HasRead feed.old (S.state shelf.old).capture content frames
-        → Takes count feed.old feed.new (S.state shelf.new).capture content frames lead.old.adapter lead.new.adapter (kept_in lead.old) (kept_in lead.new)) }
+        → Takes (AreEntered feed.old.taken frames lead.old.adapter lead.new.adapter (kept_in lead.old) (kept_in lead.new)) count feed.old feed.new (S.state shelf.new).capture content frames) }
     ensures fault { CarriesFault feed.old.ending feed.new.ending (S.state shelf.old).capture.faults (S.state shelf.new).capture.faults }
     ensures stands { OnOk result (Stands lead.new.adapter.limits lead.new.adapter.history lead.new.replica) }
     ensures kept { OnOk result (is_some (kept_in lead.new) ≡ is_some (kept_in lead.old)) }

@@ -1,5 +1,5 @@
 //! The program's words: a command takes them apart, and what it found makes the options.
-ghost use Rattle.std.specs.Prelude.{◌≡◌, map, option_copied, IfOk, IfSome};
+ghost use Rattle.std.specs.Prelude.{◌≡◌, ◌≤◌, Some, map, option_copied, IfOk, IfSome};
 ghost use Rattle.std.specs.Option.{option_map};
 ghost use Rattle.clap.specs.Words.{first_of, found_of, rows_of};
 ghost use Rattle.testpmd_shell.specs.Options.{given_in, options_of, given_of};
@@ -24,6 +24,7 @@ fn text_of<'a>(matches: &ArgMatches<'a>, name: &str) -> Option<&'a str>
 fn options_in<'a>(matches: &ArgMatches<'a>) -> Option<Options<'a>>
     ensures options { option_map given_of result ≡ given_in (rows_of (found_of matches.now)) }
     ensures limits { IfSome result (λ options. AreLimits (limits_of (given_of options))) }
+    ensures cores { IfSome result (λ options. options.cores ≤ 16) }
 {
     let script = text_of(matches, SCRIPT)?;
     let rxq = queues(text_of(matches, QUEUES))?;
@@ -46,6 +47,7 @@ pub(crate) fn options<'a>(
 ) -> Result<Option<Options<'a>>, AllocError>
     ensures options { IfOk result (λ options. option_map given_of options ≡ options_of (map (λ w. w.now) words.now)) }
     ensures limits { IfOk result (λ options. IfSome options (λ o. AreLimits (limits_of (given_of o)))) }
+    ensures cores { IfOk result (λ options. IfSome options (λ o. o.cores ≤ 16)) }
 {
     let command = shell_command(alloc)?;
     match command.try_get_matches_from(words) {
@@ -57,4 +59,22 @@ pub(crate) fn options<'a>(
             Ok(None)
         }
     }
+}
+
+/// The options that the words give, if they give any and ask for workers.
+pub(crate) fn options_with_workers<'a>(alloc: Global, words: &'a [&'a str]) -> Option<Options<'a>>
+    ensures options { IfSome result (λ o. options_of (map (λ w. w.now) words.now) ≡ Some (given_of o)) }
+    ensures limits { IfSome result (λ o. AreLimits (limits_of (given_of o))) }
+    ensures workers { IfSome result (λ o. (1 ≤ o.cores) × (o.cores ≤ 16)) }
+{
+    let Ok(options) = options(alloc, words) else {
+        return None;
+    };
+    let Some(options) = options else {
+        return None;
+    };
+    if options.cores == 0 {
+        return None;
+    }
+    Some(options)
 }

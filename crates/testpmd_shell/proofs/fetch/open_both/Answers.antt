@@ -1,20 +1,14 @@
-use Rattle.std.proofs.Common.{◌≡◌, ℕ, List, Option, None, Some, option_copied, Result, Ok, Err, IfOk, ap, ◌∙◌}
+use Rattle.std.proofs.Common.{List, ℕ, Option, option_copied, Result, Ok, Err, IfOk, ap, ◌≡◌}
 use Rattle.io_edges.specs.ShelfState.{ShelfState}
 use Rattle.testpmd_shell.specs.declared.feed.Feed.{Feed}
 use Rattle.testpmd_shell.specs.declared.fetch.Stopped.{Stopped}
 use Rattle.testpmd_shell.specs.Parts.{StartsOver}
+use Rattle.testpmd_shell.proofs.Opening.{StartsOver-same}
 use Rattle.testpmd_shell.proofs.fetch.open_both.Goals as goal
-
-starts-behind : (name : Option (List ℕ)) (feed : Option Feed) (s o t : ShelfState) → o.contents ≡ s.contents → StartsOver name feed o t → StartsOver name feed s t
-starts-behind None None s o t same starts = tt
-starts-behind None (Some feed) s o t same starts = absurd starts
-starts-behind (Some name) None s o t same starts = absurd starts
-starts-behind (Some name) (Some feed) s o t same starts =
-    (starts.0, starts.1, starts.2, λ content is. starts.3 content (ap (λ (contents : List ℕ → Option (List ℕ)). contents name) same ∙ is))
 
 all-start : (name : Option (List ℕ)) (s o t : ShelfState) (result : Result (Option Feed) Stopped) → o.contents ≡ s.contents
     → IfOk result (λ feed. StartsOver name feed o t) → IfOk result (λ feed. StartsOver name feed s t)
-all-start name s o t (Ok feed) same starts = starts-behind name feed s o t same starts
+all-start name s o t (Ok feed) same starts = StartsOver-same name feed s o t same starts
 all-start name s o t (Err why) same starts = tt
 
 pub returns-in-Ok-clause-starts : goal.returns-in-Ok-clause-starts

@@ -1,6 +1,7 @@
-use Rattle.std.proofs.Common.{◌≡◌, ◌∙◌, ap, subst, List, ℕ, true, false, Err}
-use Rattle.flow_grammar.specs.Limits.{is_too_large}
-use Rattle.testpmd_shell.proofs.ScriptSize.{is_over-read, IsOver-read, IsScriptStop-over}
+use Rattle.std.proofs.Common.{◌≡◌, ◌≤◌, ◌∙◌, ap, sym, subst, List, ℕ, true, false, Err}
+use Rattle.flow_grammar.specs.declared.part.Part.{Part}
+use Rattle.flow_grammar.specs.Limits.{calls_in, is_too_large}
+use Rattle.testpmd_shell.proofs.ScriptSize.{few-fits, is_over-read, IsOver-read, IsScriptStop-over}
 use Rattle.testpmd_shell.proofs.fetch.read_program.Goals as goal
 
 pub returns-in-Ok-program-clause-within : goal.returns-in-Ok-program-clause-within
@@ -17,3 +18,7 @@ returns-in-Err-TooLarge-clause-stopped g c = (
 
 pub returns-in-Err-clause-stopped : goal.returns-in-Err-clause-stopped
 returns-in-Err-clause-stopped g c = IsScriptStop-over _ _ _ c.in-Err.why c.in-Err.ensures.stopped
+
+pub returns-in-Ok-program-clause-few : goal.returns-in-Ok-program-clause-few
+returns-in-Ok-program-clause-few g c =
+    subst (λ (p : List Part). calls_in p ≤ 65536) (sym c.in-Ok-program.ensures.program) (few-fits c.deref.result.now c.in-Ok-program.ensures.within_limits)

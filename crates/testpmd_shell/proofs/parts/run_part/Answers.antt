@@ -1,4 +1,4 @@
-use Rattle.std.proofs.Common.{sym, subst, List}
+use Rattle.std.proofs.Common.{refl, sym, subst, List}
 use Rattle.std.proofs.lemmas.Result.{on_ok_weaker}
 use Rattle.flow_calls.specs.declared.call.Call.{Call}
 use Rattle.adapter.specs.Seen.{Grows}
@@ -7,6 +7,7 @@ use Rattle.whole_history.specs.Serial.{asks_of}
 use Rattle.flow_port.proofs.Standing.{Stands-grows}
 use Rattle.testpmd_shell.specs.Sending.{kept_in}
 use Rattle.testpmd_shell.specs.Parts.{RunsPart}
+use Rattle.testpmd_shell.specs.Ways.{serially}
 use Rattle.testpmd_shell.proofs.PartsRun.{RunsPart-section, RunsPart-phase}
 use Rattle.testpmd_shell.proofs.parts.run_part.Goals as goal
 
@@ -19,9 +20,9 @@ returns-in-Section-clause-runs g c =
     let new = c.ask_all.new.adapter in
     on_ok_weaker c.ask_all.result
     (λ asks content frames was.
-    subst (λ (p : Part). RunsPart p feed feed state content frames old new sent sent) (sym c.in-Section.is)
-    (RunsPart-section c.in-Section.calls feed state content frames old new sent was
-    (subst (λ (calls : List Call). Grows old new (asks_of old.limits 0 calls old.history)) c.as_slice.ensures asks)))
+    subst (λ (p : Part). RunsPart serially p feed feed state content frames old new sent sent) (sym c.in-Section.is)
+    (RunsPart-section serially c.in-Section.calls feed state content frames old new sent was
+    (subst (λ (calls : List Call). Grows old new (asks_of old.limits 0 calls old.history)) c.as_slice.ensures asks) (λ limits number fs h. refl)))
     c.ask_all.ensures.asks
 
 pub returns-in_ok-take_frames-in-Phase-clause-runs : goal.returns-in_ok-take_frames-in-Phase-clause-runs
@@ -39,7 +40,7 @@ returns-in_ok-take_frames-in-Phase-clause-runs g c =
     let s5 = c.ask-in-Phase.new.adapter in
     on_ok_weaker c.ask-in-Phase.result
     (λ closes content frames was.
-    subst (λ (p : Part). RunsPart p feed feed' state' content frames s0 s5 sent sent') (sym c.in-Phase.is)
+    subst (λ (p : Part). RunsPart serially p feed feed' state' content frames s0 s5 sent sent') (sym c.in-Phase.is)
     (RunsPart-phase c.in-Phase.opening c.in-Phase.closing c.in-Phase.count c.in-Phase.shell c.in-Phase.agents feed feed' state' content frames s0 s1 s2 s3 s4 s5 sent sent'
     c.in_ok-ask-in-Phase.ensures.asks
     (subst (λ (calls : List Call). Grows s1 s2 (asks_of s1.limits 0 calls s1.history)) c.as_slice-in-Phase.ensures c.in_ok-ask_all-in-Phase.ensures.asks)

@@ -4,7 +4,7 @@ use Rattle.io_edges.specs.declared.shelf.Slot.TheVariants.{Capture}
 use Rattle.io_edges.specs.Lent.{KeepsSlot}
 use Rattle.flow_port.specs.Standing.{Stands}
 use Rattle.testpmd_shell.specs.Feed.{IsReady, HasRead}
-use Rattle.testpmd_shell.specs.Phase.{GoesOn}
+use Rattle.testpmd_shell.specs.Phase.{AreEntered, GoesOn}
 use Rattle.testpmd_shell.specs.Sending.{kept_in}
 use Rattle.testpmd_shell.proofs.phase.pass_frames.Given as goal
 
@@ -15,7 +15,8 @@ invariant-loop-left g l =
       ready : IsReady l.feed;
       opened : (state l.shelf).capture.opened ≡ true;
       goes_on : (content : List ℕ) → (frames : List Frame) → HasRead l.initial.feed (state l.initial.shelf).capture content frames
-          → GoesOn l.initial.left l.left l.initial.feed l.feed (state l.shelf).capture content frames l.initial.lead.adapter l.lead.adapter (kept_in l.initial.lead) (kept_in l.lead);
+          → GoesOn (AreEntered l.initial.feed.taken frames l.initial.lead.adapter l.lead.adapter (kept_in l.initial.lead) (kept_in l.lead))
+          l.initial.left l.left l.initial.feed l.feed (state l.shelf).capture content frames;
       stands : Stands l.lead.adapter.limits l.lead.adapter.history l.lead.replica;
       kept : is_some (kept_in l.lead) ≡ is_some (kept_in l.initial.lead);
       same : l.feed.reader.ended ≡ l.initial.feed.reader.ended;

@@ -1,0 +1,2 @@
+-- What the public functions of the crate say.
+pub mod Captures
