@@ -8,6 +8,12 @@
 #[cfg(test)]
 mod asked;
 #[cfg(test)]
+mod bursting;
+#[cfg(test)]
+mod judging;
+#[cfg(test)]
+mod planned;
+#[cfg(test)]
 mod seats;
 #[cfg(test)]
 mod two_threads;
