@@ -3,13 +3,14 @@ ghost use Rattle.std.specs.Prelude.{◌<◌};
 
 use crate::made::{asks, put, put_shared, rule};
 use flow_rules::Rule;
-use packet_headers::{ItemKind, Key, parse};
+use packet_headers::{ItemKind, parse};
 use pattern_items::Fields;
 use rule_index::RuleIndex;
 use std::alloc::{AllocError, Global};
 use std::process::Abort;
 use std::sync::Arc;
 use std::test::Fail;
+use test_addresses::key_to;
 use test_frames::{IPV6_FRAME, UDP_FRAME};
 use test_rules::any;
 
@@ -168,17 +169,6 @@ fn values_of_more_than_128_bits_are_compared(rt: HostRuntime) -> Result<(), Fail
     Ok(())
 }
 
-/// The key of the UDP frame to this address.
-fn key_to(address: u32) -> Key {
-    let mut frame = UDP_FRAME;
-    let [a, b, c, d] = address.to_be_bytes();
-    frame[30] = a;
-    frame[31] = b;
-    frame[32] = c;
-    frame[33] = d;
-    parse(&frame)
-}
-
 /// The first of the addresses.
 const FIRST: u32 = 0x0a00_0000;
 
@@ -191,7 +181,7 @@ fn index_compares(rt: HostRuntime) -> Result<(), Fail> {
     }
     let mut seen = 0;
     for n in 0..4_096u32 {
-        let best = index.best_counted(0, &key_to(FIRST + n * 16), &mut seen);
+        let best = index.best_counted(0, &key_to(&UDP_FRAME, FIRST + n * 16), &mut seen);
         assert_eq!(rt; best, Some(n * 16));
     }
     assert!(rt; seen >= 4_096);

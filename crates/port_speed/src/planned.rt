@@ -4,10 +4,10 @@ ghost use Rattle.std.specs.Prelude.{◌≤◌, IfOk, length};
 use flow_actions::Action;
 use flow_calls::{At, Call, Op};
 use flow_rules::{Limits, RuleSpec};
-use packet_headers::{ItemKind, Key, parse};
-use pattern_items::{Fields, Item};
+use packet_headers::{ItemKind, Key};
 use shared_value::Shared;
 use std::alloc::{AllocError, Global};
+use test_addresses::{asks_for, key_to};
 use test_frames::UDP_FRAME;
 use test_rules::{actions_of, any, ingress, pattern_of};
 
@@ -24,11 +24,6 @@ const CHANGES: u32 = 4_000;
 
 const FIRST_ADDRESS: u32 = 0x0a01_0000;
 
-/// The mask that compares the address a frame goes to, and nothing else.
-const WHOLE_ADDRESS: Fields = Fields {
-    v: [0, 0, 0, 0, 0xffff_ffff, 0],
-};
-
 /// Frames, rules and changes of the runs.
 #[derive(Drop)]
 pub(crate) struct Work {
@@ -42,40 +37,19 @@ pub(crate) struct Work {
     pub(crate) frames: u32,
 }
 
-fn key_to(address: u32) -> Key {
-    let mut frame = UDP_FRAME;
-    let [a, b, c, d] = address.to_be_bytes();
-    frame[30] = a;
-    frame[31] = b;
-    frame[32] = c;
-    frame[33] = d;
-    parse(&frame)
-}
-
 fn keys(alloc: Global) -> Result<Vec<Key>, AllocError> {
     let mut keys = Vec::new(alloc);
     for place in 0..RULES {
-        keys.push(key_to(FIRST_ADDRESS + place))?;
+        keys.push(key_to(&UDP_FRAME, FIRST_ADDRESS + place))?;
     }
     Ok(keys)
-}
-
-/// `ipv4 dst is` an address.
-fn to_address(address: u32) -> Item {
-    Item {
-        given: Some(Fields {
-            v: [0, 0, 0, 0, u128::from(address), 0],
-        }),
-        mask: Some(WHOLE_ADDRESS),
-        ..any(ItemKind::Ipv4)
-    }
 }
 
 /// The rule for frames to an address.
 fn rule_to(address: u32) -> RuleSpec {
     RuleSpec {
         attr: ingress(0, 0),
-        pattern: pattern_of(&[any(ItemKind::Eth), to_address(address)]),
+        pattern: pattern_of(&[any(ItemKind::Eth), asks_for(address)]),
         actions: actions_of(&[Action::Queue((address % 4) as u16)]),
     }
 }

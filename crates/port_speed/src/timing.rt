@@ -1,12 +1,13 @@
 //! Runs side by side, and what they took.
-ghost use Rattle.std.specs.Prelude.{◌≤◌, length};
+ghost use Rattle.std.specs.Prelude.{◌≡◌, ◌≤◌, ℕ, [], length};
+ghost use Rattle.flow_calls.specs.Entries.{numbers_by};
 ghost use Rattle.test_crews.specs.Members.{IsPlan};
 
 use crate::locked::run_locked;
 use crate::planned::{LIMITS, Work};
 use adapter::Adapter;
 use flow_calls::Call;
-use std::alloc::Global;
+use std::alloc::{AllocError, Global};
 use std::io;
 use std::sync::Wait;
 use std::thread::Threads;
@@ -15,6 +16,13 @@ use test_crews::{MAX_BURST, Plan, open_adapter, run_crew};
 
 /// A change comes each half millisecond.
 const PAUSE_IN_MICROS: u64 = 500;
+
+/// How a crew shares its adapter.
+#[derive(Clone, Copy)]
+enum Way {
+    Port,
+    Mutex,
+}
 
 /// A run: how long it took, and the frames that passed.
 #[derive(Clone, Copy)]
@@ -40,39 +48,36 @@ impl Timed {
     }
 }
 
-fn frames_in(adapter: &Adapter) -> u64 {
-    adapter.totals().received
+/// Lets a crew work over an adapter in one of the ways. The adapter has the history.
+fn run<R: Threads + Wait + Clock + Sync>(
+    rt: &R,
+    way: Way,
+    adapter: Adapter,
+    plan: &Plan<'_>,
+) -> Result<Adapter, AllocError>
+    requires plan { IsPlan plan.now }
+    requires frames { (who : ℕ) → numbers_by who adapter.history ≡ [] }
+{
+    match way {
+        Way::Port => Ok(run_crew(rt, adapter, plan)?.adapter),
+        Way::Mutex => run_locked(rt, adapter, plan),
+    }
 }
 
-fn time_port<R: Threads + Wait + Clock + Sync>(
+/// Times the work in one of the ways.
+fn time_run<R: Threads + Wait + Clock + Sync>(
     rt: &R,
-    alloc: Global,
+    way: Way,
     work: &Work,
     plan: &Plan<'_>,
 ) -> io::Result<Timed>
     requires { IsPlan plan.now }
 {
-    let adapter = open_adapter(alloc, LIMITS, work.first.as_slice())?;
+    let adapter = open_adapter(plan.alloc, LIMITS, work.first.as_slice())?;
     let start = Instant::now(rt)?;
-    let run = run_crew(rt, adapter, plan)?;
+    let adapter = run(rt, way, adapter, plan)?;
     let nanos = start.elapsed(rt)?.as_nanos();
-    let frames = frames_in(&run.adapter);
-    Ok(Timed { nanos, frames })
-}
-
-fn time_mutex<R: Threads + Wait + Clock + Sync>(
-    rt: &R,
-    alloc: Global,
-    work: &Work,
-    plan: &Plan<'_>,
-) -> io::Result<Timed>
-    requires { IsPlan plan.now }
-{
-    let adapter = open_adapter(alloc, LIMITS, work.first.as_slice())?;
-    let start = Instant::now(rt)?;
-    let adapter = run_locked(rt, adapter, plan)?;
-    let nanos = start.elapsed(rt)?.as_nanos();
-    let frames = frames_in(&adapter);
+    let frames = adapter.totals().received;
     Ok(Timed { nanos, frames })
 }
 
@@ -107,8 +112,8 @@ pub(crate) fn time_row<R: Threads + Wait + Clock + Sync>(
         calls: asked(work, changes),
         pause: Some(Duration::from_micros(PAUSE_IN_MICROS)),
     };
-    let port = time_port(rt, alloc, work, &plan)?;
-    let mutex = time_mutex(rt, alloc, work, &plan)?;
+    let port = time_run(rt, Way::Port, work, &plan)?;
+    let mutex = time_run(rt, Way::Mutex, work, &plan)?;
     Ok(Row {
         workers,
         changes,

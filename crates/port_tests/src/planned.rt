@@ -5,9 +5,9 @@ use flow_actions::{Action, Actions};
 use flow_calls::{At, Call, Op};
 use flow_rules::{Limits, RuleSpec};
 use packet_headers::{ItemKind, Key, parse};
-use pattern_items::{Fields, Item};
 use shared_value::Shared;
 use std::alloc::{AllocError, Global};
+use test_addresses::{asks_for, key_to};
 use test_frames::{RUNT_FRAME, UDP_FRAME};
 use test_rules::{actions_of, any, ingress, pattern_of};
 
@@ -21,11 +21,6 @@ pub(crate) const LIMITS: Limits = Limits {
 const ADDRESSES: u32 = 5;
 
 const FIRST_ADDRESS: u32 = 0x0a01_0204;
-
-/// The mask that compares the address a frame goes to, and nothing else.
-const WHOLE_ADDRESS: Fields = Fields {
-    v: [0, 0, 0, 0, 0xffff_ffff, 0],
-};
 
 /// Rules stand in groups below this.
 const GROUPS: u32 = 3;
@@ -57,37 +52,14 @@ fn word(seed: u32, line: u32, place: u32) -> u32 {
     folded ^ (folded >> 13)
 }
 
-/// The headers of a UDP frame to an address.
-fn key_to(address: u32) -> Key {
-    let mut frame = UDP_FRAME;
-    let [a, b, c, d] = address.to_be_bytes();
-    frame[30] = a;
-    frame[31] = b;
-    frame[32] = c;
-    frame[33] = d;
-    parse(&frame)
-}
-
 /// The headers of frames to each address, and of one that is too short for any.
 fn keys(alloc: Global) -> Result<Vec<Key>, AllocError> {
     let mut keys = Vec::new(alloc);
     for place in 0..ADDRESSES {
-        keys.push(key_to(FIRST_ADDRESS + place))?;
+        keys.push(key_to(&UDP_FRAME, FIRST_ADDRESS + place))?;
     }
     keys.push(parse(&RUNT_FRAME))?;
     Ok(keys)
-}
-
-/// `ipv4 dst is` one of the addresses.
-fn to_address(place: u32) -> Item {
-    let address = FIRST_ADDRESS + place % ADDRESSES;
-    Item {
-        given: Some(Fields {
-            v: [0, 0, 0, 0, u128::from(address), 0],
-        }),
-        mask: Some(WHOLE_ADDRESS),
-        ..any(ItemKind::Ipv4)
-    }
 }
 
 /// What a rule ends with: a queue, nothing, a drop, or a later group.
@@ -122,7 +94,7 @@ fn rule(seed: u32, line: u32) -> RuleSpec {
     let place = word(seed, line, 3) % (ADDRESSES + 2);
     let eth = any(ItemKind::Eth);
     let pattern = if place < ADDRESSES {
-        pattern_of(&[eth, to_address(place)])
+        pattern_of(&[eth, asks_for(FIRST_ADDRESS + place)])
     } else {
         pattern_of(&[eth])
     };
