@@ -200,11 +200,12 @@ fn run<R: Threads + Wait + Sync>(
     words: &[&str],
 ) -> Result<Outcome, AllocError> {
     let script = forty_rules(alloc)?;
-    let capture = thousand_frames(alloc)?;
+    let frames = thousand_frames(alloc)?;
+    let capture = Capture::Bytes(&frames);
     let inputs = Inputs {
         words: &*words,
         script: script.as_bytes(),
-        capture: Capture::Bytes(&capture),
+        capture,
         fails: Fails::Nowhere,
     };
     run_with(rt, &OpenGate, alloc, &inputs)
