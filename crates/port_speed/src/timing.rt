@@ -12,7 +12,7 @@ use std::io;
 use std::sync::Wait;
 use std::thread::Threads;
 use std::time::{Clock, Duration, Instant};
-use test_crews::{MAX_BURST, Plan, open_adapter, run_crew};
+use test_crews::{MAX_BURST, Plan, Run, open_adapter, run_crew};
 
 /// A change comes each half millisecond.
 const PAUSE_IN_MICROS: u64 = 500;
@@ -59,9 +59,22 @@ fn run<R: Threads + Wait + Clock + Sync>(
     requires frames { (who : ℕ) → numbers_by who adapter.history ≡ [] }
 {
     match way {
-        Way::Port => Ok(run_crew(rt, adapter, plan)?.adapter),
+        Way::Port => run_at_port(rt, adapter, plan),
         Way::Mutex => run_locked(rt, adapter, plan),
     }
+}
+
+/// Lets a crew work at a port over an adapter.
+fn run_at_port<R: Threads + Wait + Clock + Sync>(
+    rt: &R,
+    adapter: Adapter,
+    plan: &Plan<'_>,
+) -> Result<Adapter, AllocError>
+    requires plan { IsPlan plan.now }
+    requires frames { (who : ℕ) → numbers_by who adapter.history ≡ [] }
+{
+    let Run { adapter, .. } = run_crew(rt, adapter, plan)?;
+    Ok(adapter)
 }
 
 /// Times the work in one of the ways.
