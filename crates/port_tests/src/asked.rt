@@ -44,6 +44,16 @@ pub(crate) fn new_adapter(rt: &impl Abort, alloc: Global) -> Adapter {
     Adapter::new(alloc, LIMITS).expect(rt, "memory")
 }
 
+/// An adapter whose history is a creation of that line.
+fn adapter_with_a_rule(rt: &impl Abort, alloc: Global, line: u32) -> Adapter {
+    let mut adapter = new_adapter(rt, alloc);
+    let rule = call(line, create(rt, alloc));
+    let Ok(_reply) = adapter.step(Caller::SHELL, &rule) else {
+        panic!(rt; "there was no memory")
+    };
+    adapter
+}
+
 /// Makes a call in a turn.
 pub(crate) fn ask<R: Wait + Abort>(
     rt: &R,
@@ -138,8 +148,7 @@ fn the_second_caller_finds_the_rule_of_the_first(rt: HostRuntime) -> Result<(), 
 fn a_port_without_a_call_has_the_history_that_it_was_made_with(
     rt: HostRuntime,
 ) -> Result<(), Fail> {
-    let mut adapter = new_adapter(&rt, rt.alloc());
-    adapter.step(Caller::SHELL, &call(7, create(&rt, rt.alloc())))?;
+    let adapter = adapter_with_a_rule(&rt, rt.alloc(), 7);
     let (port, seats) = open_port(&rt, rt.alloc(), adapter, &[Caller(3)]);
     let adapter = port.close(seats);
     assert_eq!(rt; adapter.entries(), 1);
